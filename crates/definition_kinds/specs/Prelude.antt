@@ -2,5 +2,4 @@
 pub use Rattle.definition_kinds.specs.Found.{AreFound, IsFound}
 pub use Rattle.definition_kinds.specs.Sources.{AreLeading}
 pub use Rattle.script_names.specs.Prelude.{LeadsTo, first_ends}
-pub use Rattle.script_names.specs.declared.kinds.End.{End}
-pub use Rattle.std.specs.Prelude.{Bool, IsTrue, List, None, Option, Some, false, length, nat_eq, nat_lt, slice_get, slice_index_or, true, ℕ}
+pub use Rattle.std.specs.Prelude.{Bool, IsTrue, List, false, length, nat_eq, nat_lt, slice_get, slice_index_or, true, ℕ}

@@ -1,8 +1,7 @@
 //! What the definitions of a script are.
 
 ghost use Rattle.std.specs.Prelude.{◌≡◌, ◌≤◌, length, IfOk};
-ghost use Rattle.definition_kinds.specs.Found.{AreFound, IsFound};
-ghost use Rattle.definition_kinds.specs.Sources.{AreLeading};
+ghost use Rattle.definition_kinds.specs.Prelude.{AreFound, IsFound, AreLeading};
 ghost use Rattle.definition_kinds.specs.Found as meant;
 ghost use Rattle.dl_limits.specs.declared.TheConstants.{MOST_BYTES};
 ghost use Rattle.name_tables.specs.Prelude.{rows, SameFirsts};

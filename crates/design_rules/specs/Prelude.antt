@@ -34,7 +34,6 @@ pub use Rattle.design_rules.specs.ResourceRule.{CanBeOrdered, GrantsAll, HasUses
 pub use Rattle.design_rules.specs.ResourceRuleFaults.{HasKind, KeepsGrants, KeepsHolder, KeepsTurns, LacksKind}
 pub use Rattle.design_rules.specs.Rules.{BreaksClientServer, BreaksCyclic, BreaksResource, FaultsRefute, HasNotes, Ranks}
 pub use Rattle.design_rules.specs.Vertices.{IsVertex, OthersRankZero, lap_at}
-pub use Rattle.design_rules.specs.declared.condition.Condition.{Condition}
 pub use Rattle.design_rules.specs.declared.noted_rule.NotedRule.{NotedRule}
 pub use Rattle.design_rules.specs.declared.noted_rule.NotedRule.TheVariants.{ClientServer, Cyclic, Resource}
 pub use Rattle.design_rules.specs.declared.rule_fault.RuleFault.{RuleFault}

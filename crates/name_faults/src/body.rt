@@ -1,8 +1,7 @@
 //! How deep a body reaches.
 
 ghost use Rattle.std.specs.Prelude.{◌≡◌, ◌∷◌};
-ghost use Rattle.name_faults.specs.Prelude.{[], max, map, IfOk, MatchOption, flat_map};
-ghost use Rattle.name_faults.specs.Walked.{seen};
+ghost use Rattle.name_faults.specs.Prelude.{[], max, map, IfOk, MatchOption, flat_map, seen};
 ghost use Rattle.name_faults.specs.Bodies as meant;
 
 use containers::Items;

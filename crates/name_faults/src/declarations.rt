@@ -1,9 +1,7 @@
 //! What declarations say.
 
 ghost use Rattle.std.specs.Prelude.{◌≡◌, ◌+◌, ◌≤◌, ◌∷◌, ◌++◌};
-ghost use Rattle.name_faults.specs.Prelude.{[], map, OnOk, IfOk, greatest, tree_depth, MOST_TREE_DEPTH, declaration_depth, first_of, is_among, sense_in, tree_says, data_place, declared_after, parameters_after, types_say, with_roles, with_uses, Notes, SameNames};
-ghost use Rattle.name_faults.specs.Known.{names_in, resource_said, roles_said, says_after};
-ghost use Rattle.name_faults.specs.Walked.{after};
+ghost use Rattle.name_faults.specs.Prelude.{[], map, OnOk, IfOk, greatest, tree_depth, MOST_TREE_DEPTH, declaration_depth, first_of, is_among, sense_in, tree_says, data_place, declared_after, parameters_after, types_say, with_roles, with_uses, Notes, SameNames, names_in, resource_said, roles_said, says_after, after};
 ghost use Rattle.script_names.specs.declared.kinds.Use.TheVariants as how;
 ghost use Rattle.name_faults.specs.Walked as walked;
 

@@ -1,8 +1,7 @@
 //! What is known of the declarations that were passed.
 
 ghost use Rattle.std.specs.Prelude.{◌≡◌, ◌+◌, ◌<◌};
-ghost use Rattle.name_faults.specs.Prelude.{MOST_BYTES};
-ghost use Rattle.name_faults.specs.Known.{nothing_known, defines};
+ghost use Rattle.name_faults.specs.Prelude.{MOST_BYTES, nothing_known, defines};
 
 use csp_text::Decl;
 use name_tables::{Dictionary, NameSet};

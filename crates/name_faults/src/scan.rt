@@ -1,8 +1,7 @@
 //! What tests find in what is said.
 
 ghost use Rattle.std.specs.Prelude.{◌≡◌, ◌-◌, ◌||◌};
-ghost use Rattle.name_faults.specs.Prelude.{not, map, nat_eq, nat_lt, option_copied, list_any, first_of, first_name};
-ghost use Rattle.name_faults.specs.Walked.{seen};
+ghost use Rattle.name_faults.specs.Prelude.{not, map, nat_eq, nat_lt, option_copied, list_any, first_of, first_name, seen};
 ghost use Rattle.script_names.specs.Faults as meant;
 
 use csp_base::Name;

@@ -1,8 +1,7 @@
 //! A walk over trees that lists what they say.
 
 ghost use Rattle.std.specs.Prelude.{◌≡◌, ◌+◌, ◌≤◌, ◌∷◌, ◌++◌};
-ghost use Rattle.name_faults.specs.Prelude.{false, [], length, map, take, OnOk, greatest, event_depth, field_depth, gen_depth, greatest_of_pairs, part_depth, tree_depth, MOST_TREE_DEPTH};
-ghost use Rattle.name_faults.specs.Walked.{after, seen};
+ghost use Rattle.name_faults.specs.Prelude.{false, [], length, map, take, OnOk, greatest, event_depth, field_depth, gen_depth, greatest_of_pairs, part_depth, tree_depth, MOST_TREE_DEPTH, after, seen};
 ghost use Rattle.script_names.specs.Names.{first_of, sense_in};
 ghost use Rattle.name_faults.specs.Walked as walked;
 

@@ -5,5 +5,4 @@ pub use Rattle.name_tables.specs.Firsts.{SameFirsts}
 pub use Rattle.name_tables.specs.Hidden.{HasNumbers, KeepHidden, Writes, shown}
 pub use Rattle.name_tables.specs.Spelling.{at_name}
 pub use Rattle.script_names.specs.Prelude.{Counts, Entities, Name, Scope, first_of, is_among, number_of, same_name}
-pub use Rattle.script_names.specs.declared.kinds.End.{End}
-pub use Rattle.std.specs.Prelude.{List, Option, Vec, [], map, ℕ}
+pub use Rattle.std.specs.Prelude.{List, [], map, ℕ}

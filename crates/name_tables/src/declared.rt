@@ -4,8 +4,7 @@ ghost use Rattle.std.specs.Prelude.{◌≡◌, ◌+◌, ◌<◌, ◌≤◌, [], 
 ghost use Rattle.dl_limits.specs.declared.TheConstants.{MOST_BYTES};
 ghost use Rattle.script_names.specs.Names.{channels_from, constants_from, counted, declared, declares};
 ghost use Rattle.script_sizes.specs.Size.{declaration_size, size};
-ghost use Rattle.name_tables.specs.Firsts.{SameFirsts};
-ghost use Rattle.name_tables.specs.Counted.{counts, total};
+ghost use Rattle.name_tables.specs.Prelude.{SameFirsts, counts, total};
 
 use crate::dictionary::Dictionary;
 use containers::Key;

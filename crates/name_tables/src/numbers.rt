@@ -1,8 +1,7 @@
 //! The numbers of bound names, by the order of the names.
 
 ghost use Rattle.std.specs.Prelude.{◌≡◌, None, Some, true, is_some, OnOk, OnErr, IfOk, ℕ, List};
-ghost use Rattle.name_tables.specs.Hidden.{Writes};
-ghost use Rattle.name_tables.specs.Spelling.{at_name};
+ghost use Rattle.name_tables.specs.Prelude.{Writes, at_name};
 
 use csp_base::{Made, Name};
 use std::alloc::Global;

@@ -1,8 +1,7 @@
 //! Bound names with their numbers.
 
 ghost use Rattle.std.specs.Prelude.{◌≡◌, ◌<◌, ◌≤◌, ◌-◌, true, [], ◌∷◌, ◌++◌, is_some, length, map, take, OnOk};
-ghost use Rattle.name_tables.specs.Spelling.{at_name};
-ghost use Rattle.name_tables.specs.Hidden.{shown, KeepHidden, HasNumbers, Writes};
+ghost use Rattle.name_tables.specs.Prelude.{at_name, shown, KeepHidden, HasNumbers, Writes};
 ghost use Rattle.script_names.specs.Typed.{number_of};
 
 use crate::numbers::{forget, number_at, rewrite, spelling_of, write};

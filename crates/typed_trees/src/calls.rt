@@ -1,8 +1,7 @@
 //! Trees as what they stand for, once each of their names has its meaning.
 
 ghost use Rattle.std.specs.Prelude.{◌≡◌, ◌+◌, ◌≤◌};
-ghost use Rattle.typed_trees.specs.Prelude.{map, IfOk, OnOk, MOST_BYTES, all_tokens, tokens};
-ghost use Rattle.typed_trees.specs.Walked.{past, read_at};
+ghost use Rattle.typed_trees.specs.Prelude.{map, IfOk, OnOk, MOST_BYTES, all_tokens, tokens, past, read_at};
 ghost use Rattle.script_names.specs.Typed.{all_bind, exprs};
 
 use crate::walk::Walk;

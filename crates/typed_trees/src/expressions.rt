@@ -1,9 +1,7 @@
 //! Trees as expressions.
 
 ghost use Rattle.std.specs.Prelude.{◌≡◌, ◌+◌, ◌≤◌};
-ghost use Rattle.typed_trees.specs.Prelude.{IfOk, OnOk, MOST_BYTES, all_tokens, gen_tokens, gens_tokens, part_tokens, parts_tokens, tokens};
-ghost use Rattle.typed_trees.specs.Walked.{past};
-ghost use Rattle.typed_trees.specs.Words.{after_gen, after_gens, bound, expr_at, exprs_at, gen_at, gens_at, part_at, parts_at, under_gens};
+ghost use Rattle.typed_trees.specs.Prelude.{IfOk, OnOk, MOST_BYTES, all_tokens, gen_tokens, gens_tokens, part_tokens, parts_tokens, tokens, past, after_gen, after_gens, bound, expr_at, exprs_at, gen_at, gens_at, part_at, parts_at, under_gens};
 
 use crate::counts::{count_parts, count_trees};
 use crate::walk::Walk;

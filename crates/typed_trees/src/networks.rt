@@ -1,9 +1,7 @@
 //! Trees as networks.
 
 ghost use Rattle.std.specs.Prelude.{◌≡◌, ◌+◌, ◌≤◌};
-ghost use Rattle.typed_trees.specs.Prelude.{true, IfOk, OnOk, MOST_BYTES, tokens};
-ghost use Rattle.typed_trees.specs.Walked.{past};
-ghost use Rattle.typed_trees.specs.Words.{net_at, networked_at, proc_at};
+ghost use Rattle.typed_trees.specs.Prelude.{true, IfOk, OnOk, MOST_BYTES, tokens, past, net_at, networked_at, proc_at};
 
 use crate::walk::Walk;
 use containers::{Boxed, Items};

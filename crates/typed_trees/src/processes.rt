@@ -1,9 +1,7 @@
 //! Trees as processes.
 
 ghost use Rattle.std.specs.Prelude.{◌≡◌, ◌+◌, ◌≤◌};
-ghost use Rattle.typed_trees.specs.Prelude.{IfOk, OnOk, MOST_BYTES, all_tokens, field_tokens, fields_tokens, gens_tokens, pairs_tokens, part_tokens, set_tokens, tokens};
-ghost use Rattle.typed_trees.specs.Walked.{past};
-ghost use Rattle.typed_trees.specs.Words.{after_field, after_fields, bound, expr_at, field_at, fields_at, gens_at, pairs_at, part_at, proc_at, procs_at, set_at, sides_at};
+ghost use Rattle.typed_trees.specs.Prelude.{IfOk, OnOk, MOST_BYTES, all_tokens, field_tokens, fields_tokens, gens_tokens, pairs_tokens, part_tokens, set_tokens, tokens, past, after_field, after_fields, bound, expr_at, field_at, fields_at, gens_at, pairs_at, part_at, proc_at, procs_at, set_at, sides_at};
 
 use crate::counts::count_pairs;
 use crate::walk::Walk;

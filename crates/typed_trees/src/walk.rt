@@ -1,8 +1,7 @@
 //! Where a walk over trees stands.
 
 ghost use Rattle.std.specs.Prelude.{◌≡◌, ◌+◌, ◌<◌, ◌≤◌, ◌++◌, ◌∷◌};
-ghost use Rattle.typed_trees.specs.Prelude.{[], length, take, OnOk, MOST_BYTES, first_of, number_of, tokens};
-ghost use Rattle.typed_trees.specs.Walked.{past, standing};
+ghost use Rattle.typed_trees.specs.Prelude.{[], length, take, OnOk, MOST_BYTES, first_of, number_of, tokens, past, standing};
 ghost use Rattle.script_names.specs.Typed as typed;
 ghost use Rattle.typed_trees.specs.Words as words;
 
