@@ -20,7 +20,8 @@ unfoldable pub use Rattle.name_faults.specs.Depths.{AreWithin}
 unfoldable pub use Rattle.name_faults.specs.Depths.{within}
 pub use Rattle.name_faults.specs.Known.{IsKnown, IsNext, deep_at, defines, fault_after, names_in, nothing_known, says_after}
 unfoldable pub use Rattle.name_faults.specs.Known.{fault_from}
-pub use Rattle.name_faults.specs.Walked.{Walked, after, after_fields, after_gens, after_pairs, after_parts, after_trees, field_binder, field_names, field_said, fields_said, gen_binder, gen_names, gen_said, gens_said, pair_said, pairs_said, part_said, parts_said, seen, tree_said, trees_said, under_fields, under_gens}
+pub use Rattle.name_faults.specs.Walked.{Walked, after, after_fields, after_gens, after_pairs, after_parts, after_trees, field_binder, gen_binder, seen}
+unfoldable pub use Rattle.name_faults.specs.Walked.{field_names, field_said, fields_said, gen_names, gen_said, gens_said, pair_said, pairs_said, part_said, parts_said, tree_said, trees_said, under_fields, under_gens}
 pub use Rattle.name_faults.specs.declared.body.Body.{Body}
 pub use Rattle.name_faults.specs.declared.known.Known.{Known}
 pub use Rattle.name_tables.proofs.NameLemmas.{same_meanings, same_names-append}

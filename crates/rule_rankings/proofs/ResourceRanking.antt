@@ -1,5 +1,7 @@
 -- The ranks of a network of users and resources.
 use Rattle.rule_rankings.proofs.Prelude.{◌≡◌, ℕ, suc, ◌+◌, ◌-◌, ◌*◌, ◌<◌, ◌≤◌, ◌⊎◌, inl, inr, ℤ, pos, List, [], ◌∷◌, length, get_or, Bool, true, false, ◌||◌, cond, max, nat_eq, refl, sym, ap, subst, ◌∙◌, arith, eq-eqb, cases_lt, cond-true, cond-false, and_parts, and_from, or_cases, or_left, or_right, both_ways, false≢true, get_or_past, MOST_COMPONENTS, has, end_of, part_at, AreApart, IsWithin, IsWellFormed, IsPossible, Accepts, accepted, UseSets, use_at, Ranking, is_held, acquires, KeepUses, top_number, AreResourceRanks, rank_there, number_by, IsLeastAcquired, HaveTop, AreAllRanked, IsRanked, NoLap, any_of, list_any, part_form, end_within, Setting, is_acquired_by}
+use Rattle.shape_links.proofs.Acquiring.{acquire_only}
+use Rattle.design_rules.proofs.Resource.{below_top}
 use Rattle.rule_rankings.proofs.RowsBelow.{fits, rank_is, others_zero, lap_none}
 use Rattle.rule_rankings.specs.ResourceRanks.{IsRank}
 
