@@ -50,7 +50,7 @@ fn names<'a>(scope: &Scope<'a>) -> Names<'a>
 }
 
 // What was found, or why the walk ends there.
-fn needed<T>(found: EvalResult<T>) -> Result<T, Stop<LayoutFault>>
+fn value_or_stop<T>(found: EvalResult<T>) -> Result<T, Stop<LayoutFault>>
     ensures { (outcome : Outcome T) → Gives found outcome → Needs result outcome }
 {
     match found {
@@ -64,7 +64,7 @@ fn needed<T>(found: EvalResult<T>) -> Result<T, Stop<LayoutFault>>
 fn value(scope: &Scope<'_>, expr: &Expr) -> Result<Value, Stop<LayoutFault>>
     ensures { Needs result (value_under scope.now.program.now (names_of scope.now) expr.now) }
 {
-    needed(eval_with(scope.alloc, scope.program, &names(scope), expr))
+    value_or_stop(eval_with(scope.alloc, scope.program, &names(scope), expr))
 }
 
 // Whether a condition holds.
@@ -72,7 +72,7 @@ pub(crate) fn truth(scope: &Scope<'_>, expr: &Expr) -> Result<bool, Stop<LayoutF
     ensures { Needs result (truth_under scope.now.program.now (names_of scope.now) expr.now) }
 {
     let value = value(scope, expr)?;
-    needed(to_truth(&value))
+    value_or_stop(to_truth(&value))
 }
 
 // The atoms of a set.
@@ -80,7 +80,7 @@ pub(crate) fn set(scope: &Scope<'_>, expr: &Expr) -> Result<AtomSet, Stop<Layout
     ensures { Needs result (set_under scope.now.program.now (names_of scope.now) expr.now) }
 {
     let value = value(scope, expr)?;
-    needed(to_set(value))
+    value_or_stop(to_set(value))
 }
 
 // The events that a set holds, where it holds nothing else.
@@ -98,7 +98,7 @@ pub(crate) fn events(scope: &Scope<'_>, expr: &Expr) -> Result<EventSet, Stop<La
     ensures { Needs result (events_under scope.now.program.now (names_of scope.now) expr.now) }
 {
     let atoms = set(scope, expr)?;
-    needed(events_of(scope.alloc, &atoms))
+    value_or_stop(events_of(scope.alloc, &atoms))
 }
 
 // The values of arguments, from the left.
@@ -108,7 +108,7 @@ pub(crate) fn arguments(
 ) -> Result<Items<Value>, Stop<LayoutFault>>
     ensures { Needs result (arguments_under scope.now.program.now (names_of scope.now) exprs.now) }
 {
-    needed(eval_all_with(scope.alloc, scope.program, &names(scope), exprs))
+    value_or_stop(eval_all_with(scope.alloc, scope.program, &names(scope), exprs))
 }
 
 // The names of the operands around, and one more.

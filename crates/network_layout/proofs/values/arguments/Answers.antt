@@ -4,6 +4,6 @@ use Rattle.network_layout.proofs.values.arguments.Goals as goal
 
 pub returns : goal.returns
 returns c =
-    c.needed.ensures _ (subst (Gives c.eval_all_with.result)
+    c.value_or_stop.ensures _ (subst (Gives c.eval_all_with.result)
     (ap (λ (env : Env). worths c.args.scope.now.program.now (length c.args.scope.now.program.now.defs) env c.args.exprs.now) c.names.ensures ∙
     arguments_worth c.args.scope.now.program.now (length c.args.scope.now.program.now.defs) (names_of c.args.scope.now) c.args.exprs.now) c.eval_all_with.ensures)
