@@ -16,7 +16,7 @@ returns-in-Ok-clause-rise c m j held =
     let falls : slice_index c.in-Ok.heights m < slice_index c.in-Ok.heights j = c.in-Ok.ensures.falls j m (c.requires.complete j m held) in
     omega arith
 
-pub turn_circle-requires : goal.turned-requires
+pub turn_circle-requires : goal.turn_circle-requires
 turn_circle-requires c =
     let it = rw c.in-Err-Told.field-0-is at c.in-Err-Told.ensures.circle in
     subst (λ (vs : List ℕ). 0 < length vs) (sym c.members.ensures) (circle_some (HasArc c.args.rows.now) c.in-Err-Told.circle it)
