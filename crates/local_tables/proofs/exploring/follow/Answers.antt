@@ -18,7 +18,7 @@ returns-in-Err-Told-clause-fault c =
     record {
       term = tree_at trees id;
       reached = reached task (terms_at trees found.terms) found.origins c.requires.up_to.found.led c.args.at (tree_at trees id) here;
-      none = rw c.in-Err-Told.field-0-is at c.in-Err-Told.ensures.fault;
+      none = rw c.in-Err-Told.kind-is (rw c.in-Err-Told.field-0-is at c.in-Err-Told.ensures.fault);
     }
 
 pub loop-place-init : goal.loop-place-init
