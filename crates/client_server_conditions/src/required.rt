@@ -73,7 +73,8 @@ impl<'a> Requirement for Undivided<'a> {
     ghost nodes = { λ required. length (table_of required.component) };
 
     ghost meets = { λ required node _. not (list_any
-        (splits required.component.shape.now.vocabulary required.requests.now) (node_at (table_of required.component) node).accept) };
+        (splits required.component.shape.now.vocabulary required.requests.now)
+        (node_at (table_of required.component) node).accept) };
 
     fn is_met(&self, node: u32, _state: u32) -> Made<bool> {
         let vocabulary = self.component.shape.shape().vocabulary();

@@ -47,7 +47,7 @@ impl ConformingParts {
     /// Succeeds where each run of `part` is one of `specified`, and after it each acceptance of the first contains one of the second.
     ///
     /// It takes time in proportion to the tables where a pair that is equal up to the numbers of events was found to conform. Else it takes time in
-    /// proportion to the pairs of nodes to which runs lead, with the steps of the first and the logarithm of those of the second.
+    /// proportion to the pairs of nodes to which runs lead, with the steps of the first and the logarithm of those of the second (not proved).
     pub fn check(
         &mut self,
         alloc: Global,

@@ -23,7 +23,10 @@ impl Model for PartRanks {
 
     ghost Value = { Ranks };
 
-    ghost view = { λ r. record { ranks = map (λ row. row.items) r.ranks.items; laps = map (λ row. row.items) r.laps.items } };
+    ghost view = { λ r. record {
+      ranks = map (λ row. row.items) r.ranks.items;
+      laps = map (λ row. row.items) r.laps.items;
+    } };
 }
 
 impl PartRanks {

@@ -97,7 +97,8 @@ impl Model for Shape {
 
     ghost view = { λ s. record { parts = s.parts.items; links = s.links.items; vocabulary = s.vocabulary } };
 
-    ghost invariant = { λ s. LinksAreOrdered (record { parts = s.parts.items; links = s.links.items; vocabulary = s.vocabulary }) };
+    ghost invariant = { λ s. LinksAreOrdered
+        (record { parts = s.parts.items; links = s.links.items; vocabulary = s.vocabulary }) };
 }
 
 impl Shape {

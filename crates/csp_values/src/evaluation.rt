@@ -290,7 +290,8 @@ fn eval_set_op(scope: &Scope<'_>, op: SetOp, a: &Expr, b: &Expr) -> EvalResult<V
 #[tactic(auto, using(crate::proofs::Weights::none_weigh, crate::proofs::Arms::lacking_steps))]
 fn eval_product(scope: &Scope<'_>, parts: &[EventPart], gens: &[Gen]) -> EvalResult<Value>
     ensures { Gives result (form.produced (form.lack_sets scope.now.content.now.channels parts.now)
-        (walk_worth scope.now.content.now scope.now.uses gens.now [] parts.now (env_in scope.now.names.now) form.nothing_yet)) }
+        (walk_worth scope.now.content.now scope.now.uses gens.now [] parts.now (env_in scope.now.names.now)
+        form.nothing_yet)) }
 {
     if lack_sets(scope.content.channels(), parts) {
         return Err(Stop::Told(ValueKind::Kind));

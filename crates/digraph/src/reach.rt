@@ -12,7 +12,7 @@ use std::alloc::{AllocError, Global};
 /// The vertices that walks from the sources reach, in the order found: the sources, and then the targets of each vertex that
 /// is listed, in turn, where they are not listed yet.
 ///
-/// It takes time linear in the number of sources, of vertices found and of their arcs, and no recursion.
+/// It takes time linear in the number of sources, of vertices found and of their arcs (not proved), and no recursion.
 pub fn reachable_from(
     alloc: Global,
     rows: &Rows,

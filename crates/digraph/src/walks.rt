@@ -44,7 +44,7 @@ struct Search {
 
 /// For each vertex the greatest number of arcs of a walk that begins there, or a circle, where there is one.
 ///
-/// It takes time linear in the number of vertices and arcs, and no recursion.
+/// It takes time linear in the number of vertices and arcs (not proved), and no recursion.
 pub fn longest_walks(alloc: Global, rows: &Rows) -> Result<Heights, Stop<Circle>>
     ensures heights { IfOk result (AreHeights (HasArc rows.now) (length rows.now)) }
     ensures no_circle { OnOk result (HasNoCircle (HasArc rows.now)) }

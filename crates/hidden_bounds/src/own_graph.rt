@@ -69,7 +69,7 @@ fn greatest_of(numbers: &[u32]) -> u32
 
 /// The greatest number of steps of a walk in the own graph of a table over some events, or none where that graph has a circle.
 ///
-/// It takes time linear in the number of terms and steps, and no recursion.
+/// It takes time linear in the number of terms and steps (not proved), and no recursion.
 pub fn own_height(alloc: Global, table: &RawTable, events: &EventSet) -> Made<Option<u32>>
     ensures height { IfOk result (λ found. IfSome found (IsOwnHeight table.now events.now)) }
     ensures round { IfOk result (λ found. IfNone found (GoesRoundItself table.now events.now)) }

@@ -24,7 +24,7 @@ use term_pool::Pool;
 /// (`TermCount`), one is deeper than 800 (`TermDepth`), they or their steps are more than there is room for (`TermTotal`, `StepCount`), or it can end
 /// (`Terminates`).
 ///
-/// It takes time in proportion to the terms and their steps.
+/// It takes time in proportion to the terms and their steps (not proved).
 pub fn explore(
     alloc: Global,
     task: &Task<'_>,

@@ -46,7 +46,8 @@ impl<'a> Model for Parted<'a> {
 
     ghost Value = { PartedNetwork };
 
-    ghost coded = { Prim.hlevel (codes, tree_code, expression.the_row.coded, net.the_row.coded, process.the_row.coded) };
+    ghost coded = { Prim.hlevel
+        (codes, tree_code, expression.the_row.coded, net.the_row.coded, process.the_row.coded) };
 
     ghost view = { λ s. record { network = s.network.now; parts = s.parts.items } };
 

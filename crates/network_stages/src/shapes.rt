@@ -40,7 +40,8 @@ impl<'a> Model for Shaped<'a> {
 
     ghost Value = { ShapedNetwork };
 
-    ghost coded = { Prim.hlevel (codes, tree_code, expression.the_row.coded, net.the_row.coded, process.the_row.coded) };
+    ghost coded = { Prim.hlevel
+        (codes, tree_code, expression.the_row.coded, net.the_row.coded, process.the_row.coded) };
 
     ghost view = { λ s. record { network = s.network.now; shape = s.shape } };
 
@@ -78,7 +79,7 @@ fn links_of_parts(alloc: Global, parts: &[Part]) -> Made<(Vec<Link>, EventSet)>
 
 // The shape of these parts: its links join the parts that share events, and its vocabulary is the shared events.
 //
-// It takes time in proportion to the sizes of the alphabets and the number of the greatest event.
+// It takes time in proportion to the sizes of the alphabets and the number of the greatest event (not proved).
 fn shape_of(alloc: Global, parts: Vec<Part>) -> Made<Shape>
     requires least { 1 ≤ length parts.items }
     requires most { length parts.items ≤ MOST_COMPONENTS }

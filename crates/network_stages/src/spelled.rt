@@ -39,7 +39,8 @@ impl Model for Spelled {
 
     ghost Value = { Network };
 
-    ghost coded = { Prim.hlevel (codes, tree_code, expression.the_row.coded, network.the_row.coded, process.the_row.coded) };
+    ghost coded = { Prim.hlevel
+        (codes, tree_code, expression.the_row.coded, network.the_row.coded, process.the_row.coded) };
 
     ghost view = { λ s. network_at s.program };
 

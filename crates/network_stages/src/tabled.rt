@@ -38,7 +38,8 @@ impl<'a> Model for Tabled<'a> {
 
     ghost Value = { TabledNetwork };
 
-    ghost coded = { Prim.hlevel (codes, tree_code, expression.the_row.coded, net.the_row.coded, process.the_row.coded) };
+    ghost coded = { Prim.hlevel
+        (codes, tree_code, expression.the_row.coded, net.the_row.coded, process.the_row.coded) };
 
     ghost view = { λ t. record { network = t.network.now; tables = t.tables.items } };
 

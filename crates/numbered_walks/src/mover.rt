@@ -46,7 +46,9 @@ impl<'a> Model for Mover<'a> {
 
     ghost view = { λ m. record { alphabet = m.alphabet.now; table = m.table.now } };
 
-    ghost invariant = { λ m. HasRawForm m.table.now × OwnsItsSteps m.alphabet.now m.table.now × AreSilentRows m.table.now m.silent.items × AreStepRows m.table.now m.steps.items × AreOffers m.table.now m.offers.items };
+    ghost invariant = { λ m. HasRawForm m.table.now × OwnsItsSteps m.alphabet.now m.table.now
+        × AreSilentRows m.table.now m.silent.items × AreStepRows m.table.now m.steps.items
+        × AreOffers m.table.now m.offers.items };
 }
 
 impl<'a> Mover<'a> {

@@ -101,7 +101,8 @@ impl Explored {
     pub fn run_if_any(&self, alloc: Global, place: Option<usize>) -> Made<Option<Trace>>
         requires { IfSome place (λ k. k < length self.now.pairs) }
         ensures { (table : List Node) (step : ℕ → ℕ → ℕ) (start : ℕ) → AreFound table step start self.now
-            → IfOk result (λ run. MatchOption place (run ≡ None) (λ k. IsSomeAnd run (λ s. LeadsTo table step start s (pair_at self.now.pairs k)))) }
+            → IfOk result (λ run. MatchOption place (run ≡ None)
+            (λ k. IsSomeAnd run (λ s. LeadsTo table step start s (pair_at self.now.pairs k)))) }
     {
         match place {
             Some(place) => self.run_to(alloc, place).map(Some),

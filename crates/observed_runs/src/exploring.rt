@@ -14,7 +14,7 @@ use std::alloc::Global;
 /// The pairs of a node and a state to which runs of the part's table lead, from its first node and the state 0.
 /// The rows are enough of each node's steps for the observer (`steps_of`).
 ///
-/// It takes time in proportion to the pairs and the steps in the rows of their nodes.
+/// It takes time in proportion to the pairs and the steps in the rows of their nodes (not proved).
 pub fn explore<O: Observer>(
     alloc: Global,
     part: &Part,

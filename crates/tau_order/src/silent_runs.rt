@@ -14,7 +14,7 @@ use std::alloc::Global;
 /// For each term of the table the greatest number of silent steps that follow one another from it, or a circle of silent
 /// steps, where there is one.
 ///
-/// It takes time linear in the number of terms and silent steps, and no recursion.
+/// It takes time linear in the number of terms and silent steps (not proved), and no recursion.
 pub fn heights(alloc: Global, table: &RawTable) -> Result<Heights, Stop<Circle>>
     ensures heights { IfOk result (AreHeights (SilentStep (RawStep table.now)) table.now.count) }
     ensures below { IfOk result (λ found. (s : ℕ) → s < table.now.count → slice_index found s < table.now.count) }

@@ -38,7 +38,8 @@ impl<'a> Model for Prepared<'a> {
 
     ghost view = { λ p. p.offers };
 
-    ghost invariant = { λ p. HasRawForm p.offers × AreSilentRows p.offers p.silent × AreMoveRows p.offers p.moves.items };
+    ghost invariant = { λ p. HasRawForm p.offers × AreSilentRows p.offers p.silent
+        × AreMoveRows p.offers p.moves.items };
 }
 
 impl<'a> Prepared<'a> {
