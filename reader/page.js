@@ -5,11 +5,11 @@ const network = new Network(data.parts, data.events.length);
 const numbers = new Map(data.events.map((name, event) => [name, event]));
 const culprits = new Set(data.culprits);
 const walks = data.walks.map((walk) => new Walk(walk.name, walk.events, walk.stuck));
-const view = { selected: data.culprits[0] || 0, walk: null, zoom: null, parts: data.view, ranFirst: true, shownParts: 60, wait: null, moved: new Set() };
+const view = { selected: data.culprits[0] || 0, walk: null, zoom: null, parts: data.view, picture: "first", shownParts: 60, wait: null, ring: [], moved: new Set(), channels: new Map(), hasKeys: true };
 const at = (id) => document.getElementById(id);
 const firstPicture = document.querySelector("#picture svg");
 const canStep = data.parts.length > 0 && data.parts.every((part) => part.table);
-const MOST_BUTTONS = 40, MANY_EVENTS = 24, MOST_WAITS = 12, MOST_OFFERS = 12, NEAR_NODES = 14;
+const MOST_BUTTONS = 40, MANY_BUTTONS = 12, FEW_EVENTS = 4, MANY_EVENTS = 24, MOST_WAITS = 12, MOST_OFFERS = 12, NEAR_NODES = 14;
 
 function el(tag, attributes, ...children) {
   const made = document.createElement(tag);
@@ -58,7 +58,36 @@ function plainNetwork(parts) {
     return { name: part, lines: [title, "at node 0"], shape: "box", w: Math.max(96, title.length * 8.2 + 24), h: 46 };
   });
   const edges = inside.map(([one, other, directed, events]) => ({ from: places.get(one), to: places.get(other), directed: directed === 1, lines: withLabels ? eventLines(events.map(event)) : [] }));
-  return plainPicture(nodes, edges, { across: false, both: !edges.some((edge) => edge.directed), gap: { main: 100, side: 48 } });
+  const cells = data.cells && parts.map((part) => data.cells[part]);
+  return plainPicture(nodes, edges, { across: false, both: !edges.some((edge) => edge.directed), cells, gap: { main: 100, side: 48 } });
+}
+
+/** Components in a ring, each with a line to the next; `lines` says what stands at it, and what kind of line it is. */
+function ringPicture(ring, lines, directed) {
+  const nodes = ring.map((part) => ({ name: part, lines: [data.parts[part].title, "at node 0"], shape: "box", w: Math.max(96, data.parts[part].title.length * 8.2 + 24), h: 46 }));
+  const edges = ring.map((part, place) => ({ from: place, to: (place + 1) % ring.length, directed, lines: ring.length > 1 && ring.length <= data.most.labelled ? eventLines(lines(part, ring[(place + 1) % ring.length])) : [] }));
+  return plainPicture(nodes, ring.length === 2 ? edges.slice(0, directed ? 2 : 1) : edges, { across: false, both: true, ring: ring.length > 2 ? [...ring.keys()] : null, gap: { main: 100, side: 48 } });
+}
+
+const sharedEvents = (one, other) => data.links.find(([left, right]) => (left === one && right === other) || (left === other && right === one))?.[3] || [];
+
+/** The circle that the report tells, and nothing else. */
+function showCircle() {
+  view.parts = data.circle;
+  view.picture = "circle";
+  showPicture(ringPicture(data.circle, (one, other) => sharedEvents(one, other).map(event), false));
+  showLegend();
+  markPicture();
+}
+
+/** The components that wait for one another in a circle where the network stands still. */
+function showWaiting() {
+  view.parts = view.ring;
+  view.picture = "waiting";
+  const wanted = (one, other) => network.waits(one).filter((wait) => wait.for.includes(other)).map((wait) => event(wait.event));
+  showPicture(ringPicture(view.ring, wanted, true));
+  showLegend();
+  markPicture();
 }
 
 /** Puts a picture in its room: nodes get names and keys. */
@@ -87,26 +116,28 @@ function showPicture(picture) {
     if (link) edge.append(svg("title", {}, `${call(link[0])} ${link[2] ? "→" : "–"} ${call(link[1])}: ${link[3].map(event).join(", ")}`));
   }
   at("picture").replaceChildren(picture);
-  view.zoom = firstScale(picture, at("picture"));
+  if (!picture.querySelector(".label")) placeLabels(picture);
+  view.zoom = Math.min(1.25, fitOf(picture, at("picture")));
   scaled(picture, view.zoom);
-  toMiddle(at("picture"), picture.querySelector(`.node[data-node="${view.selected}"]`));
+  at("whole-view").hidden = view.picture === "first";
+  // where all components are drawn, and all are in the circle, there is nothing to leave out
+  const isAll = view.parts.length === data.parts.length && data.circle.length === data.parts.length;
+  at("only-circle").hidden = view.picture === "circle" || data.circle.length < 2 || isAll;
 }
 
-/** The scale at which all of a picture is seen in its room. */
+/** The scale at which all of a picture is seen in its room, without a bar to scroll it. */
 function fitOf(picture, room) {
-  const box = picture.viewBox.baseVal;
-  return Math.min((room.clientWidth - 20) / box.width, (parseFloat(getComputedStyle(room).maxHeight) - 24) / box.height);
+  scaled(picture, 0);
+  const box = picture.viewBox.baseVal, style = getComputedStyle(room), sum = (...names) => names.reduce((all, name) => all + parseFloat(style[name]), 0);
+  const wide = room.clientWidth - sum("paddingLeft", "paddingRight");
+  const high = parseFloat(style.maxHeight) - sum("paddingTop", "paddingBottom", "borderTopWidth", "borderBottomWidth");
+  return Math.max(0.05, Math.min((wide - 1) / box.width, (high - 1) / box.height));
 }
 
 function scaled(picture, scale) {
   const box = picture.viewBox.baseVal;
-  picture.setAttribute("width", Math.round(box.width * scale));
-  picture.setAttribute("height", Math.round(box.height * scale));
-}
-
-/** The scale that a picture begins with: all of it, as far as its texts can be read. */
-function firstScale(picture, room) {
-  return Math.min(1.25, Math.max(0.9, fitOf(picture, room)));
+  picture.setAttribute("width", Math.floor(box.width * scale));
+  picture.setAttribute("height", Math.floor(box.height * scale));
 }
 
 /** Scrolls a room, and nothing else, to what is shown in it. */
@@ -125,8 +156,7 @@ function zoom(step) {
 
 function showFirstPicture() {
   view.parts = data.view;
-  view.ranFirst = true;
-  at("whole-view").hidden = true;
+  view.picture = "first";
   showPicture(firstPicture || plainNetwork(view.parts));
   showLegend();
 }
@@ -134,7 +164,8 @@ function showFirstPicture() {
 function showLegend() {
   const directed = data.links.some((link) => link[2] === 1);
   const says = [];
-  if (view.parts.length < data.parts.length) says.push(`${view.parts.length} of ${data.parts.length} components: ${view.ranFirst ? "those of the answer, and what is about them" : `what is about ${call(view.selected)}`}. The others are in the list below.`);
+  const sorts = { first: "those of the answer, and what is about them", about: `what is about ${call(view.selected)}`, circle: "the circle that the answer tells", waiting: "those that wait for one another in a circle" };
+  if (view.parts.length < data.parts.length) says.push(`${view.parts.length} of ${data.parts.length} components: ${sorts[view.picture]}. The others are in the list below.`);
   else says.push(`${counted(data.parts.length, "component")}, ${counted(data.links.length, "link")}.`);
   if (directed) says.push(document.body.dataset.rule === "resource" ? "An arrow goes from a user to a resource." : "An arrow goes from a client to its server.");
   if (!data.known) says.push("How components are called and their alphabets could not be read from the script, so an event counts as theirs where their tables have it.");
@@ -199,14 +230,14 @@ function select(part) {
   view.selected = part;
   if (!view.parts.includes(part)) {
     view.parts = about(part);
-    view.ranFirst = false;
-    at("whole-view").hidden = false;
+    view.picture = "about";
     showPicture(plainNetwork(view.parts));
     showLegend();
   }
   showPart();
   markPicture();
   at("component").scrollIntoView({ block: "nearest" });
+  keepAddress();
 }
 
 /** The node of a component that the answer is about, with what is said of it. */
@@ -306,7 +337,8 @@ function showMachine(part, told) {
   picture.setAttribute("role", "img");
   picture.setAttribute("aria-label", `The table of ${data.parts[part].title} as a state machine, now at node ${network.at[part]}`);
   at("machine").replaceChildren(picture);
-  scaled(picture, firstScale(picture, at("machine")));
+  // all of it, as far as its texts can be read
+  scaled(picture, Math.min(1.25, Math.max(0.6, fitOf(picture, at("machine")))));
   toMiddle(at("machine"), picture.querySelector(".node.now"));
   const says = ["Blue is where it stands, and what can happen there now."];
   if (drawn.length < nodes.length) says.push(`Drawn are ${drawn.length} of ${nodes.length} nodes, from there on.`);
@@ -368,11 +400,29 @@ function shownEvents() {
   return possible.length <= MANY_EVENTS || !wanted ? possible : possible.filter((step) => event(step).toLowerCase().includes(wanted));
 }
 
+/** Many events by their channels: the next of the run first, then each channel with how many there are. */
+function byChannel(possible, along) {
+  const channels = new Map();
+  for (const step of possible) {
+    const channel = event(step).split(".")[0];
+    channels.set(channel, [...(channels.get(channel) || []), step]);
+  }
+  const places = new Map(possible.map((step, place) => [step, place]));
+  return [...channels].map(([channel, steps]) => {
+    const buttons = steps.slice(0, MOST_BUTTONS).map((step) => eventButton(step, places.get(step), along));
+    const more = steps.length > MOST_BUTTONS ? [el("p", {}, `and ${steps.length - MOST_BUTTONS} more`)] : [];
+    if (steps.length < FEW_EVENTS) return el("div", { class: "events" }, ...buttons);
+    const isOpen = view.channels.has(channel) ? view.channels.get(channel) : steps.includes(along) || channels.size === 1;
+    const room = el("details", { class: "channel", open: isOpen }, el("summary", {}, el("span", { class: "event" }, channel), ` ${counted(steps.length, "event")}`), el("div", { class: "events" }, ...buttons), ...more);
+    room.addEventListener("toggle", () => view.channels.set(channel, room.open));
+    return room;
+  });
+}
+
 function showPossible() {
   const along = view.walk ? view.walk.next() : undefined, possible = shownEvents();
-  const buttons = possible.slice(0, MOST_BUTTONS).map((step, place) => eventButton(step, place, along));
-  const more = possible.length > MOST_BUTTONS ? [el("p", {}, `and ${possible.length - MOST_BUTTONS} more`)] : [];
-  at("possible").replaceChildren(...(possible.length ? [el("div", { class: "group" }, el("p", {}, "Take one of the events that are possible:"), el("div", { class: "events" }, ...buttons), ...more)] : []));
+  const buttons = possible.length > MANY_BUTTONS ? byChannel(possible, along) : [el("div", { class: "events" }, ...possible.map((step, place) => eventButton(step, place, along)))];
+  at("possible").replaceChildren(...(possible.length ? [el("div", { class: "group" }, el("p", {}, "Take one of the events that are possible:"), ...buttons)] : []));
 }
 
 /** A shortest way from a component back to it, along what is waited for. */
@@ -410,14 +460,23 @@ function waitLine(part) {
 
 function showStandstill(isStill) {
   view.wait = isStill ? new Map(data.parts.map((_, part) => [part, [...new Set(network.waits(part).flatMap((wait) => wait.for))]])) : null;
+  const ring = (view.ring = isStill ? circleOf(view.wait) : []);
   at("standstill").hidden = !isStill;
+  at("only-waiting").hidden = ring.length < 2;
   if (!isStill) return;
-  const ring = circleOf(view.wait);
   const order = [...new Set([...ring, ...data.culprits, ...data.parts.keys()])];
   const circle = ring.length ? [el("p", {}, `Each waits for the next: ${ring.slice(0, 12).map(call).join(" → ")}${ring.length > 12 ? " → … → " : " → "}${call(ring[0])}.`)] : [];
   at("standstill").replaceChildren(el("strong", {}, "Standstill"), el("p", {}, "Nothing can happen here: this is a deadlock of the network."), ...circle, el("ul", {}, ...order.slice(0, MOST_WAITS).map(waitLine)),
     ...(order.length > MOST_WAITS ? [el("p", {}, `and ${order.length - MOST_WAITS} more, which the list of all components has.`)] : []));
   if (ring.length) view.wait = new Map(ring.map((part, place) => [part, [ring[(place + 1) % ring.length]]]));
+}
+
+/** The picture follows where the network comes to a standstill, or leaves it: a circle of waiting that it has not whole is drawn by itself. */
+function showPictureOfMoment() {
+  if (view.picture === "waiting") {
+    if (view.ring.length > 1) showWaiting();
+    else showFirstPicture();
+  } else if (view.ring.some((part) => !view.parts.includes(part))) showWaiting();
 }
 
 function pickedText({ chosen, before }) {
@@ -435,8 +494,32 @@ function showTrail() {
   });
   if (first) items.unshift(el("li", {}, `${first} before, `));
   at("trail").replaceChildren(...items);
-  at("trail-room").hidden = !steps.length;
+  at("trail-room").hidden = at("chart-room").hidden = !steps.length;
   at("trail").scrollTop = at("trail").scrollHeight;
+  showChart();
+}
+
+function showChart() {
+  if (!at("chart-room").open || at("chart-room").hidden) return;
+  const chart = chartOf(network.history, network.owners), taken = network.history.filter((step) => step.event !== undefined).length;
+  at("chart").replaceChildren(drawnChart(chart, network.owners, call, event));
+  at("chart-legend").textContent = chart.steps.length < taken ? `The last ${chart.steps.length} of ${taken} events.` : "";
+  at("chart").scrollTop = at("chart").scrollHeight;
+}
+
+/** The place of the focus among what is drawn anew, as a function that puts it there again. */
+function heldFocus() {
+  const now = document.activeElement;
+  const rooms = ["possible", "choices", "standstill", "trail"].filter((id) => at(id).contains(now));
+  if (!rooms.length) return () => {};
+  const pick = now.dataset.pick, part = now.closest("[data-part]")?.dataset.part;
+  return () => {
+    const same = pick !== undefined ? document.querySelector(`#${rooms[0]} [data-part="${part}"] [data-pick="${pick}"]`) : null;
+    const found = same || (rooms[0] === "trail" ? at("trail").querySelector("li:last-child button") : null) || at("possible").querySelector("button.along, button") || (at("standstill").hidden ? at("steps-head") : at("standstill"));
+    // what is closed can't have the focus
+    found.closest("details:not([open])")?.setAttribute("open", "");
+    found.focus({ preventScroll: true });
+  };
 }
 
 function stateText(possible) {
@@ -446,8 +529,7 @@ function stateText(possible) {
 }
 
 function show() {
-  const possible = network.possible();
-  const isStill = canStep && possible.length === 0;
+  const possible = network.possible(), isStill = canStep && possible.length === 0, toFocus = heldFocus();
   showPossible();
   showChoices(possible);
   showStandstill(isStill);
@@ -456,9 +538,39 @@ function show() {
   document.body.dataset.state = isStill ? "stuck" : "moving";
   at("back").disabled = at("restart").disabled = !network.history.length;
   at("next").disabled = at("end").disabled = !view.walk || view.walk.next() === undefined;
+  // where it stands still at the start no button does anything
+  at("controls").hidden = isStill && !network.history.length;
+  showPictureOfMoment();
   showPart();
   markPicture();
   showParts();
+  toFocus();
+  keepAddress();
+}
+
+/** Writes what is shown into the end of the address, once it has been so for a moment. */
+function keepAddress() {
+  clearTimeout(view.addressTimer);
+  view.addressTimer = setTimeout(() => {
+    const run = view.walk ? walks.indexOf(view.walk) : -1;
+    history.replaceState(null, "", addressOf(view.selected, run < 0 || run >= data.walks.length ? "none" : run, network.history));
+  }, 200);
+}
+
+/** Goes to what an address says, as far as it can be gone. */
+function goTo(address) {
+  view.walk = (address.run !== null && walks[address.run]) || null;
+  at("walk-choice").value = view.walk ? String(address.run) : "none";
+  network.restart();
+  for (const step of address.steps) {
+    const isPick = step.event === undefined;
+    if (isPick ? !(data.parts[step.part] && network.choices(step.part) && (step.place === null || step.place < network.choices(step.part).length)) : !network.canFollow(step.event)) break;
+    if (isPick) network.pick(new Map([[step.part, step.place]]));
+    else if (network.take(step.event)) took(step.event);
+  }
+  if (data.parts[address.selected]) view.selected = address.selected;
+  show();
+  if (!view.parts.includes(view.selected)) select(view.selected);
 }
 
 function took(step) {
@@ -568,6 +680,7 @@ const KEYS = { n: next, ArrowRight: next, b: back, ArrowLeft: back, r: restart, 
 
 function pressed(press) {
   if (press.ctrlKey || press.metaKey || press.altKey || at("keys").open || press.target.closest("input, textarea, select")) return;
+  if (!view.hasKeys && press.key.length === 1) return;
   // arrows move what is scrolled, where that has the focus
   if (press.key.startsWith("Arrow") && press.target.closest(".picture-room, .table-room")) return;
   const place = /^[1-9]$/.test(press.key) ? Number(press.key) - 1 : -1;
@@ -589,12 +702,15 @@ function connect() {
   on("zoom-out", () => zoom(-1));
   on("zoom-fit", () => zoom(0));
   on("whole-view", () => (showFirstPicture(), markPicture()));
+  on("only-circle", showCircle);
+  on("only-waiting", showWaiting);
   on("more-parts", () => ((view.shownParts += 100), showParts()));
   at("walk-choice").addEventListener("change", () => follow(walks[at("walk-choice").value] || null));
   at("part-choice").addEventListener("change", () => select(Number(at("part-choice").value)));
   at("part-filter").addEventListener("input", showParts);
   at("event-filter").addEventListener("input", showPossible);
   at("all-parts").addEventListener("toggle", showParts);
+  at("chart-room").addEventListener("toggle", showChart);
   at("node-list").addEventListener("toggle", () => showNodes(view.selected));
   at("to-standstill")?.addEventListener("click", () => {
     at("steps").scrollIntoView();
@@ -603,10 +719,28 @@ function connect() {
   document.addEventListener("keydown", pressed);
 }
 
+/** Whether letters, digits and signs are keys: what was chosen is kept by the browser where it keeps such things. */
+function connectKeyChoice() {
+  const kept = (does) => {
+    try {
+      return does(localStorage);
+    } catch {
+      return null;
+    }
+  };
+  view.hasKeys = kept((storage) => storage.getItem("dlcheck-keys")) !== "off";
+  at("letter-keys").checked = view.hasKeys;
+  at("letter-keys").addEventListener("change", () => {
+    view.hasKeys = at("letter-keys").checked;
+    kept((storage) => storage.setItem("dlcheck-keys", view.hasKeys ? "on" : "off"));
+  });
+}
+
 function begin() {
+  const address = readAddress(location.hash);
   at("show-keys").addEventListener("click", () => at("keys").showModal());
   at("close-keys").addEventListener("click", () => at("keys").close());
-  if (innerWidth >= 1080) document.querySelector("#verdict details.meaning")?.setAttribute("open", "");
+  if (innerWidth >= 1080) document.querySelector("#verdict details.used, #verdict details.meaning")?.setAttribute("open", "");
   const marked = document.querySelector(".script .marked");
   if (marked) marked.parentElement.scrollTop = marked.offsetTop - marked.parentElement.offsetTop - 60;
   if (!data.parts.length) return;
@@ -618,11 +752,14 @@ function begin() {
   });
   at("part-choice").replaceChildren(...data.parts.map((part, place) => el("option", { value: place }, part.title)));
   connect();
+  connectKeyChoice();
   showFirstPicture();
   showWalks();
   view.walk = walks[0] || null;
   at("walk-choice").value = walks.length ? "0" : "none";
-  restart();
+  if (address) goTo(address);
+  else restart();
+  addEventListener("hashchange", () => readAddress(location.hash) && goTo(readAddress(location.hash)));
 }
 
 begin();

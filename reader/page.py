@@ -3,15 +3,15 @@
 The page is a picture of what the program reports: of `check`, `table` and `run`. It proves nothing."""
 import base64, collections, concurrent.futures, hashlib, json, pathlib, re, sys, time
 
-import picture
-from explain import ABOUT, RULES, about_comments, about_language, about_network, about_page, about_place, keys_of
-from network import NOT_FOLLOWED, Network
+import page_places, picture, proof_order
+from explain import ABOUT, RULES, about_comments, about_language, about_network, about_page, about_place, attempt, keys_of
+from network import Network
 from page_text import Linker, Script, escaped, findings_html, page_html, places_html, written_html
 from reports import ask, text_of, told_by
 from uses import Uses, held_while
 
 HOME = pathlib.Path(__file__).resolve().parent
-CODE = ("page_steps.js", "page_picture.js", "page.js")
+CODE = ("page_steps.js", "page_picture.js", "page_labels.js", "page_chart.js", "page_address.js", "page.js")
 # what one picture of the network may hold, and one of a table
 MOST_PARTS, MOST_LABELLED, MOST_NODES, MOST_WAYS = 60, 24, 40, 120
 MOST_MACHINES = 48
@@ -39,6 +39,7 @@ class Facts:
                 self.events.setdefault(event, len(self.events))
         self.links = [self.directed(link) for link in network.links()]
         self.culprits = [part for part in told.components if part < network.count]
+        self.cells = page_places.grid_cells(network.components)
         self.crossed = crossings(network, self.culprits) if told.number == "29" else []
         tables = [network.table(part) for part in range(network.count)]
         self.size = sum(len(node.steps) for table in tables if table for node in table.nodes)
@@ -87,6 +88,16 @@ class Facts:
         if self.told.number == "29":
             return [pair for crossing in self.crossed for pair in ((crossing["user"], crossing["holds"]), (crossing["user"], crossing["wants"]))]
         return [(one, other) for one, other in self.told.links if max(one, other) < self.network.count]
+
+    def circle(self):
+        """The components of the circle that the report tells, in its order; of a circle of links those between one link and the next."""
+        if not self.told.circle:
+            return []
+        if self.told.number != "24":
+            return self.culprits
+        pairs = list(zip(self.told.links, self.told.links[1:] + self.told.links[:1]))
+        between = [next((part for part in link if part in following), link[0]) for link, following in pairs]
+        return [part for part in dict.fromkeys(between) if part < self.network.count]
 
     def view(self):
         """The components of the first picture: all of them, or the culprit and what is about it."""
@@ -145,7 +156,7 @@ def walks_of(runs, events):
         if names in known or len(made) == MOST_WALKS or not all(name in events for name in names):
             continue
         known.add(names)
-        how = f"stuck after {counted(len(names), 'event')}" if is_stuck else f"{counted(len(names), 'event')}, and it goes on"
+        how = f"{counted(len(names), 'event')}, and it goes on" if not is_stuck else f"stuck after {counted(len(names), 'event')}" if names else "stuck at the start"
         made.append({"name": f"seed {seed}: {how}", "events": [events[name] for name in names], "stuck": is_stuck, "seed": seed})
     return made
 
@@ -165,11 +176,12 @@ def network_picture(facts):
     if not links:
         return None
     shared = {(one, other): events for one, other, _, events in facts.links}
-    ends = collections.Counter(part for one, other, _ in links for part in (one, other))
-    # layers where clients stand above servers, a ring for rounds, else neighbours near each other
-    engine = "dot" if facts.rule == "client-server" and any(directed for _, _, directed in links) else "circo" if max(ends.values()) <= 2 else "neato"
-    text = picture.network_text({part: facts.title(part) for part in view}, links, shared, len(links) <= MOST_LABELLED)
-    return picture.drawn(text, engine)
+    points = page_places.grid_points(facts.cells) if facts.cells and len(view) == facts.network.count else None
+    # a grid or a ring as it is, layers where clients stand above servers, else neighbours near each other
+    layered = facts.rule == "client-server" and any(directed for _, _, directed in links)
+    engine = "neato" if points else "circo" if page_places.is_ring(view, [link[:2] for link in links]) else "dot" if layered else "neato"
+    text = picture.network_text({part: facts.title(part) for part in view}, links, shared, len(links) <= MOST_LABELLED, points)
+    return picture.drawn(text, engine, placed=bool(points))
 
 
 def machine_of(data):
@@ -257,10 +269,8 @@ def verdict_html(facts, walks, report, linker):
     stuck = [walk for walk in walks if walk["stuck"]]
     if stuck:
         walk = stuck[0]
-        made.append(
-            f'<p class="real"><strong>It can deadlock.</strong> The run of seed {walk["seed"]} is stuck after {counted(len(walk["events"]), "event")}. '
-            f'<button type="button" id="to-standstill">Step through it</button></p>'
-        )
+        where, does = (f'stuck after {counted(len(walk["events"]), "event")}', "Step through it") if walk["events"] else ("stuck at the start", "Show who waits for whom")
+        made.append(f'<p class="real"><strong>It can deadlock.</strong> The run of seed {walk["seed"]} is {where}. <button type="button" id="to-standstill">{does}</button></p>')
     elif facts.told.status == 1 and walks:
         made.append(f'<p class="real">{counted(facts.tries, "run")} of {LONG:,} steps, by the first seeds, went on. That proves nothing.</p>')
     if not facts.has_tables:
@@ -302,7 +312,8 @@ def page_data(facts, walks, numbers):
     return {
         "known": bool(network.components), "events": list(facts.events), "parts": facts.parts, "machines": numbers,
         "links": [[one, other, int(directed), [facts.events[event] for event in events]] for one, other, directed, events in facts.links],
-        "culprits": facts.culprits, "marked": facts.marked_links(), "view": facts.view(), "walks": walks,
+        "culprits": facts.culprits, "circle": facts.circle(), "marked": facts.marked_links(), "view": facts.view(), "walks": walks,
+        "cells": [facts.cells[part] for part in range(network.count)] if facts.cells else None,
         "traces": [[part, [facts.events[event] for event in trace]] for part, trace in told.traces.items() if part < network.count and all(event in facts.events for event in trace)],
         "crossed": [{**each, "trace": [facts.events[event] for event in each["trace"]]} for each in facts.crossed],
         "most": {"parts": MOST_PARTS, "nodes": MOST_NODES, "ways": MOST_WAYS, "labelled": MOST_LABELLED},
@@ -332,10 +343,7 @@ def explained(facts, linker):
 
 def culprit_lines(network, told):
     """What the answer is about in this script, as far as it can be followed."""
-    try:
-        return ABOUT[told.number](network, told) if told.number in ABOUT else []
-    except NOT_FOLLOWED:
-        return []
+    return attempt(ABOUT[told.number], network, told) if told.number in ABOUT else []
 
 
 def folded_html(sort, head, inside):
@@ -351,7 +359,9 @@ def page_of(facts, walks, report, name):
     linker = Linker({facts.call(part): part for part in range(facts.network.count)}, len(script.lines))
     drawn, numbers = machines(facts)
     here, named, head, meaning = explained(facts, linker)
-    folded = [folded_html("meaning", f"What this answer means: {head}", meaning and f'<div class="page">{meaning}</div>')]
+    used = attempt(proof_order.used, facts.network, facts.rule, facts.links) if facts.told.status == 0 else []
+    folded = [folded_html("used", "What the proof goes by in this network", used and f'<div class="findings">{findings_html(used, linker)}</div>')]
+    folded.append(folded_html("meaning", f"What this answer means: {head}", meaning and f'<div class="page">{meaning}</div>'))
     folded.append(folded_html("parts", "Components and links that are named", named and f'<div class="findings">{named}</div>'))
     style = (HOME / "page.css").read_text()
     code = "\n".join((HOME / file).read_text() for file in CODE)

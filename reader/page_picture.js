@@ -187,7 +187,24 @@ function ringOf(count, edges) {
   return order.length === count ? order : null;
 }
 
+/** A long ring in rows: the first row goes to the right, further rows back and forth behind the first column, and the first column leads back up. */
+function placedInRows(nodes, order) {
+  const wide = Math.max(...nodes.map((node) => node.w)) + 44, high = nodes[0].h + 60;
+  const rows = 2 * Math.max(1, Math.round(Math.sqrt((order.length * wide) / high / 1.6 / 4) * 1)), columns = Math.ceil(order.length / rows) + 1;
+  const cells = [];
+  for (let row = 0; row < rows; row += 1) {
+    const across = Array.from({ length: columns - 1 }, (_, column) => column + 1);
+    for (const column of row % 2 ? across.reverse() : across) cells.push([row, column]);
+  }
+  for (let row = rows - 1; row >= 0; row -= 1) cells.push([row, 0]);
+  // where there are more cells than nodes, the last ones of the way back stay free
+  const surplus = cells.length - order.length;
+  const kept = surplus > 0 ? [...cells.slice(0, cells.length - rows).slice(0, order.length - Math.min(rows, order.length - 1)), ...cells.slice(-Math.min(rows, order.length - 1))] : cells;
+  order.forEach((node, place) => ([nodes[node].x, nodes[node].y] = [kept[place][1] * wide, kept[place][0] * high]));
+}
+
 function placedInRing(nodes, order) {
+  if (order.length > 20) return placedInRows(nodes, order);
   const wide = Math.max(...nodes.map((node) => node.w)) + 110, round = Math.max(150, (order.length * wide) / (2 * Math.PI));
   order.forEach((node, place) => {
     const angle = (2 * Math.PI * place) / order.length - Math.PI / 2;
@@ -195,11 +212,22 @@ function placedInRing(nodes, order) {
   });
 }
 
+/** Places the nodes in a grid: each has its row, its column, and which it is of those that stand there. */
+function placedInGrid(nodes, cells) {
+  const wide = Math.max(...nodes.map((node) => node.w)) + 70, kinds = 1 + Math.max(...cells.map(([, , which]) => which));
+  const [low, left] = [0, 1].map((axis) => Math.min(...cells.map((cell) => cell[axis])));
+  cells.forEach(([row, column, which], node) => {
+    nodes[node].x = (column - left) * (wide + 60 * (kinds - 1)) + 60 * which;
+    nodes[node].y = (row - low) * (116 + 60 * (kinds - 1)) + 60 * which;
+  });
+}
+
 /** Draws a graph. A node is { name, lines, shape, w, h }, an edge { from, to, lines, directed } by places of nodes. */
-function plainPicture(nodes, edges, { across, both, roots, gap }) {
-  const ring = across ? null : ringOf(nodes.length, edges);
+function plainPicture(nodes, edges, { across, both, roots, ring: known, cells, gap }) {
+  const ring = known || (across ? null : ringOf(nodes.length, edges));
   const layer = layersOf(nodes.length, edges, roots || rootsOf(nodes.length, edges), both);
-  if (ring) placedInRing(nodes, ring);
+  if (cells && !known) placedInGrid(nodes, cells);
+  else if (ring) placedInRing(nodes, ring);
   else placed(nodes, ordered(layer, edges), across, gap);
   const bend = bends(edges, layer, Math.max(...nodes.map((node) => (across ? node.h : node.w))));
   // neighbouring labels stand at different heights

@@ -7,6 +7,8 @@ MOST_LINKED_LINES = 20_000
 KEYWORDS = set("and assert channel datatype diff else false if inter nametype not or then true union STOP SKIP".split())
 # a piece of a line of a script: a comment opens, closes, or goes to the end of the line; or a name
 PIECE = re.compile(r"(?P<open>\{-)|(?P<comment>--.*)|(?P<name>[A-Za-z][A-Za-z0-9_]*'*)|(?P<number>[0-9]+)")
+# a paragraph that leads to a script: what stands before, and from the words on that judge it
+AN_EXAMPLE = re.compile(r"(.*?)\s*\b(With `[^`]*`[^.]*:)")
 FENCE = re.compile(r"(?P<open>\{-)|(?P<close>-\})")
 NAMED = re.compile(r"(?P<line>\bline (?P<row>\d+)\b)|(?P<numbered>\b[Cc]omponent (?P<part>\d+)\b)|(?P<call>\b[A-Za-z][A-Za-z0-9_]*'*(?:\((?:[^()]|\([^()]*\))*\))?(?P<which> \(\d+\))?)")
 
@@ -116,29 +118,46 @@ def blocks_of(text):
     block = []
     for line in [*text.splitlines(), ""]:
         indented = line.startswith("    ")
-        if block and (not line.strip() or indented != block[0].startswith("    ") or line.startswith("- ")):
+        if block and (not line.strip() or indented != block[0].startswith("    ") or line.startswith(("- ", "### ")) or block[0].startswith("### ")):
             yield block
             block = []
         if line.strip():
             block.append(line)
 
 
+def example_of(words):
+    """A paragraph in three: what stands before an example, whether one begins, and the words that begin it."""
+    found = AN_EXAMPLE.fullmatch(words)
+    return (found[1], True, found[2]) if found else (words, False, "")
+
+
 def page_html(text):
-    """A section of a page of docs/: paragraphs, lists, and scripts that are indented."""
-    made, inside = [], False
+    """A section of a page of docs/: paragraphs, lists, and scripts that are indented. From its first script on a part is an example, which opens by a click."""
+    made, is_list, is_example = [], False, False
     for block in blocks_of(text):
-        is_item = block[0].startswith("- ")
-        if inside and not is_item:
+        words = " ".join(line.strip() for line in block)
+        is_item, is_script, is_head = words.startswith("- "), block[0].startswith("    "), words.startswith("### ")
+        if is_list and not is_item:
             made.append("</ul>")
-        if is_item and not inside:
-            made.append("<ul>")
-        inside = is_item
-        if block[0].startswith("    "):
+            is_list = False
+        if is_example and is_head:
+            made.append("</details>")
+            is_example = False
+        before, begins, behind = ("", True, "") if is_script else example_of(words)
+        if begins and not is_example and not is_head:
+            made += [f"<p>{spans(before)}</p>"] if before else []
+            made.append('<details class="example"><summary>Example</summary>')
+            words, is_example = behind, True
+        if is_script:
             made.append(f"<pre>{escaped(chr(10).join(line[4:] for line in block))}</pre>")
-            continue
-        words = spans(" ".join(line.strip() for line in block).removeprefix("- "))
-        made.append(f"<li>{words}</li>" if is_item else f"<p>{words}</p>")
-    return "\n".join([*made, "</ul>"] if inside else made)
+        elif is_head:
+            made.append(f"<h4>{spans(words.removeprefix('### '))}</h4>")
+        elif is_item:
+            made += ([] if is_list else ["<ul>"]) + [f"<li>{spans(words.removeprefix('- '))}</li>"]
+            is_list = True
+        else:
+            made.append(f"<p>{spans(words)}</p>")
+    return "\n".join([*made, *(["</ul>"] if is_list else []), *(["</details>"] if is_example else [])])
 
 
 def spans(text):

@@ -27,12 +27,13 @@ def event_lines(events):
     return [*events[: MOST_LINES - 1], f"and {len(events) - MOST_LINES + 1} more"]
 
 
-def network_text(called, links, shared, labels):
-    """The components and links for Graphviz. A link is (one, other, directed)."""
+def network_text(called, links, shared, labels, points=None):
+    """The components and links for Graphviz. A link is (one, other, directed); `points` say where components stand, where that is known."""
     lines = ["digraph {", '  outputorder=edgesfirst; ranksep=0.55; nodesep=0.3; overlap=prism; mindist=2.1; splines=true; sep="+26,+18";']
     lines.append('  node [shape=box, style=rounded, fontname="Helvetica", fontsize=14, margin="0.16,0.07"]; edge [fontname="Helvetica", fontsize=12, len=' + ("3" if labels else "1.7") + "];")
     for part, call in called.items():
-        lines.append(f"  {part} [id={quoted(f'n{part}')}, label={quoted(f'{call}' + chr(10) + 'at node 000')}];")
+        place = f", pos=\"{points[part][0]},{points[part][1]}!\"" if points else ""
+        lines.append(f"  {part} [id={quoted(f'n{part}')}, label={quoted(f'{call}' + chr(10) + 'at node 000')}{place}];")
     for one, other, directed in links:
         label = f", label={quoted(chr(10).join(event_lines(shared[one, other])))}" if labels else ""
         lines.append(f"  {one} -> {other} [id={quoted(f'e{one}-{other}')}{'' if directed else ', dir=none'}{label}];")
@@ -53,12 +54,12 @@ def machine_text(nodes, ways, names):
     return "\n".join([*lines, "}"])
 
 
-def drawn(text, engine="dot"):
-    """What Graphviz makes of a text, as SVG for the page; nothing where it is missing, fails or takes long."""
+def drawn(text, engine="dot", placed=False):
+    """What Graphviz makes of a text, as SVG for the page; nothing where it is missing, fails or takes long. `placed` where the text says where nodes stand."""
     if not has_graphviz():
         return None
     try:
-        made = subprocess.run(["dot", f"-K{engine}", "-Tsvg"], input=text.encode(), stdout=subprocess.PIPE, stderr=subprocess.DEVNULL, timeout=LONGEST)
+        made = subprocess.run(["dot", f"-K{engine}", *(["-n2"] if placed else []), "-Tsvg"], input=text.encode(), stdout=subprocess.PIPE, stderr=subprocess.DEVNULL, timeout=LONGEST)
         return anew(ElementTree.fromstring(made.stdout)) if made.returncode == 0 else None
     except (OSError, subprocess.TimeoutExpired, ElementTree.ParseError, StopIteration):
         return None
