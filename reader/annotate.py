@@ -5,7 +5,7 @@ import collections, concurrent.futures, os, pathlib, sys, tempfile
 
 from network import KINDS, Network
 from reports import ask, text_of
-from find_roles import Roles, named_events
+from find_roles import Roles, asked, in_order, named_events
 from script import NoScript, tokens_of
 from set_expressions import NO_VALUE, Finder, has_values
 from texts import MOST_NAMED, listed
@@ -120,16 +120,6 @@ def without_roles(network, found):
             lines += [f"  {asked(network, reading)}, or" for reading in found.readings[place]]
         lines += [f"  {fault.condition}, {fault.what}"] if fault else []
     return lines or ["no choice of who asks was found that fits all links together"]
-
-
-def asked(network, reading):
-    """`USER(0) asks STORE by read.0 and gets data.0`."""
-    answers = f" and gets {in_order(network, reading.client, reading.answers)}" if reading.answers else " without answers"
-    return f"{network.short(reading.client)} asks {network.short(reading.server)} by {in_order(network, reading.client, reading.requests)}{answers}"
-
-
-def in_order(network, part, events):
-    return listed([event for event in network.alphabet(part) if event in events])
 
 
 def uses_of(network):

@@ -71,23 +71,30 @@ class Turns:
 
 
 class Roles:
-    """The readings of each link, and a choice of one for each of them."""
+    """The readings of each link, and a choice of one for each of them; or the readings of a few links alone, by their places."""
 
-    def __init__(self, network):
+    def __init__(self, network, places=None):
         self.network = network
         self.links = network.links()
-        self.turns, self.readings, self.faults, self.chief = {}, {}, {}, {}
-        shared = [{event for link in network.links_of(part) for event in link.events} for part in range(network.count)]
-        # where a component waits for shared events alone: the place in its table and the events
-        self.waits = [
-            [(node, frozenset(offer)) for node, at in enumerate(network.table(part).nodes) for offer in at.accepts if offer and shared[part].issuperset(offer)]
-            for part in range(network.count)
-        ]
-        self.events = [named_events(network, part) for part in range(network.count)]
-        for place, link in enumerate(self.links):
-            for part in (link.left, link.right):
-                self.turns[part, place] = Turns(network.table(part), set(link.events))
+        self.turns, self.readings, self.faults, self.chief, self.kept_waits, self.kept_events = {}, {}, {}, {}, {}, {}
+        for place in range(len(self.links)) if places is None else places:
+            for part in self.ends(place)[0]:
+                self.turns[part, place] = Turns(network.table(part), set(self.links[place].events))
             self.read(place)
+
+    def waits(self, part):
+        """Where a component waits for shared events alone: the places in its table, and the events."""
+        if part not in self.kept_waits:
+            shared = {event for link in self.network.links_of(part) for event in link.events}
+            nodes = self.network.table(part).nodes
+            self.kept_waits[part] = [(node, frozenset(offer)) for node, at in enumerate(nodes) for offer in at.accepts if offer and shared.issuperset(offer)]
+        return self.kept_waits[part]
+
+    def events(self, part):
+        """The events of a component's alphabet by their texts."""
+        if part not in self.kept_events:
+            self.kept_events[part] = named_events(self.network, part)
+        return self.kept_events[part]
 
     # readings of one link
 
@@ -137,7 +144,7 @@ class Roles:
     def server_fault(self, place, reading):
         """Whether the server is choosy about these requests, or takes them while it owes an answer."""
         turns = self.turns[reading.server, place]
-        for node, offer in self.waits[reading.server]:
+        for node, offer in self.waits(reading.server):
             if offer & reading.requests and not offer >= reading.requests:
                 missing = listed(sorted(reading.requests - offer))
                 return Fault("S4", f"{self.network.short(reading.server)} {self.after(reading.server, node)} waits for {listed(sorted(offer))} and not for {missing}")
@@ -148,7 +155,7 @@ class Roles:
     def client_fault(self, place, reading):
         """Whether the client, once it has asked, doesn't wait for every answer."""
         turns = self.turns[reading.client, place]
-        for node, offer in self.waits[reading.client] if reading.answers else ():
+        for node, offer in self.waits(reading.client) if reading.answers else ():
             if (node, 1) in turns.before and not offer >= reading.answers:
                 missing = listed(sorted(reading.answers - offer))
                 return Fault("S5", f"{self.network.short(reading.client)} after {turns.trace((node, 1))} waits for {listed(sorted(offer))} and not for {missing}")
@@ -180,15 +187,15 @@ class Roles:
         """Of an end: whether it does something else between request and answer, waits for others beside the requests, and may refuse one that is possible."""
         events, table = set(self.links[place].events), self.network.table(part)
         works = any(event not in events for node in self.turns[part, place].open_nodes() for event, _ in table.nodes[node].steps)
-        waits = any(offer & reading.requests and offer - events for _, offer in self.waits[part])
-        chooses = any(not offer >= {event for event, _ in table.nodes[node].steps if event in reading.requests} for node, offer in self.waits[part])
+        waits = any(offer & reading.requests and offer - events for _, offer in self.waits(part))
+        chooses = any(not offer >= {event for event, _ in table.nodes[node].steps if event in reading.requests} for node, offer in self.waits(part))
         return works, waits, chooses
 
     # a reading for each link
 
     def takes(self, reading):
         """Where a server waits for these requests: of all links that it serves this has to be the same."""
-        return frozenset(wait for wait in self.waits[reading.server] if wait[1] & reading.requests)
+        return frozenset(wait for wait in self.waits(reading.server) if wait[1] & reading.requests)
 
     def choice(self):
         """A reading for each link, by place, and whether nobody is a client of itself by others; nothing where there is no choice."""
@@ -234,7 +241,7 @@ class Roles:
             return (str(part),)
         seen = set()
         for text in self.links[place].events:
-            event = self.events[part][text]
+            event = self.events(part)[text]
             chief = self.chief_parameters(component.name, event.channel)
             seen.add((event.channel, tuple(at is not None and component.values[at] == field for at, field in zip(chief, event.fields))))
         return (component.name, *sorted(seen))
@@ -289,6 +296,25 @@ class Roles:
                         missing = sorted((one.requests | two.requests) - offer)
                         return Fault("S4", f"{self.network.short(part)} {self.after(part, node)} waits for {listed(sorted(offer))} and not for {listed(missing)}")
         return None
+
+
+def asked(network, reading):
+    """`USER(0) asks STORE by read.0 and gets data.0`."""
+    answers = f" and gets {in_order(network, reading.client, reading.answers)}" if reading.answers else " without answers"
+    return f"{network.short(reading.client)} asks {network.short(reading.server)} by {in_order(network, reading.client, reading.requests)}{answers}"
+
+
+def in_order(network, part, events):
+    return listed([event for event in network.alphabet(part) if event in events])
+
+
+def read_link(network, left, right):
+    """The most natural reading of a link, or nothing; and the readings that are none, each with its fault, the most natural first."""
+    place = next((place for place, link in enumerate(network.links()) if (link.left, link.right) == (left, right)), None)
+    if place is None or not network.table(left) or not network.table(right):
+        return None, []
+    roles = Roles(network, [place])
+    return next(iter(roles.readings[place]), None), [dropped for dropped in roles.faults[place] if dropped[0]] or roles.faults[place]
 
 
 class Search:

@@ -5,7 +5,7 @@ evaluated from what `show` prints, and where that can't be followed the tables a
 import collections, pathlib, re, tempfile, time
 
 from layout import Layout
-from reports import ask, events_of, table_of, text_of
+from reports import ask, events_of, node_after, table_of, text_of
 from script import NoScript, lines_of
 from values import Script
 
@@ -87,6 +87,12 @@ class Network:
         if part not in self.tables:
             self.tables[part] = table_of(ask(self.program, ["table", self.file, str(part)], quiet=True))
         return self.tables[part]
+
+    def node_after(self, part, trace):
+        """The node of a component after a trace, or nothing where its table or the trace in it is not there."""
+        table = self.table(part)
+        at = node_after(table, trace) if table else None
+        return None if at is None else table.nodes[at]
 
     def does(self, part):
         """The events that a component can do at all, as its table first has them."""
