@@ -7,7 +7,7 @@ from cspm_steps import TAU
 from cspm_tokens import Refused, tokens_of
 from cspm_values import in_order, spelled_field
 from declarations import Declarations
-from graphs import aligned, definitions, grouped, reduced
+from graphs import definitions, endless_states, grouped, reduced
 from kept_data import ATOM, BREAK, Context, NotKept
 from kept_definitions import Definitions, broken
 from networks import Leaf, Named, Network, Row, Wrapped, literal
@@ -24,7 +24,7 @@ class Composer:
 
     def __init__(self, processes, tree):
         script = processes.script
-        self.processes, self.script = processes, script
+        self.processes, self.script, self.tree = processes, script, tree
         self.names = Names([*script.channels, *script.definitions, *script.constructors, *script.datatypes, *script.nametypes])
         self.channels = Channels(processes, self.names)
         self.keeper = Definitions(processes, self.channels)
@@ -32,6 +32,10 @@ class Composer:
         self.network = Network(processes, tree, self.write)
         self.ways = Ways(self.network)
         self.events = EventNames(self.ways, self.channels)
+        self.graphs = [self.events.renamed(leaf) for leaf in self.network.leaves]
+        for leaf in self.network.leaves:
+            if endless_states(reduced(self.graphs[leaf.index])):
+                raise Refused(f"{self.network.title(leaf)} can do silent steps for ever (12): leave a hiding out there, or let an event stand in the loop")
         self.declarations = Declarations(self.keeper, self.events.split)
         self.finder = Finder(self.declarations.shown())
         self.top = self.part([((), self.network.top)], [], None).text
@@ -190,7 +194,7 @@ class Composer:
 
     def from_graphs(self, instances, params, name, fault):
         """A component by its finite graph; those of a replicated parallel together where they differ by its name alone."""
-        graphs = [reduced(self.events.renamed(leaf)) for _, leaf in instances]
+        graphs = [reduced(self.graphs[leaf.index]) for _, leaf in instances]
         calls = [values for values, _ in instances]
         base = name if name in self.script.definitions and name not in self.made and self.keeper.fault([name]) else self.names.fresh(name)
         self.made.add(base)

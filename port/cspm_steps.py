@@ -178,7 +178,7 @@ class Processes(Terms):
     def extended(self, row, sign, tree, among, is_last):
         """The ways to fill the next field of an event: its atoms, the bound names, and the values that `$` drew."""
         begun, bound, drawn = row
-        if sign in (".", "!"):
+        if sign in (".", "!") or (tree.form == "name" and self.script.constructors.get(tree.parts[0])):
             return [(begun + atoms_of(self.value(tree, bound)), bound, drawn)]
         allowed, rows = None if among is None else self.value(among, bound), []
         for new in self.filled(begun, is_last):

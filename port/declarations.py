@@ -56,15 +56,21 @@ class Declarations:
     def own(self, item):
         return self.script.text[item.at : item.end]
 
+    def parts(self, name):
+        """The channels that a channel becomes, with the types of their fields; those for the ways of its events behind them."""
+        parts = list(self.types_of(name)[0].items())
+        return parts + [(self.split[part][0], [*self.split[part][1], *types]) for part, types in parts if part in self.split]
+
     def channel_lines(self, item):
-        """Channels by their types, and behind them those for the ways of their events."""
-        types, is_same = self.types_of(item.names[0])
-        lines = [self.own(item)] if is_same else []
+        """The declarations of channels."""
+        by_types = {}
         for name in item.names:
-            for part, texts in self.types_of(name)[0].items():
-                lines += [] if is_same else [declared([part], texts)]
-                lines += [declared([self.split[part][0]], [*self.split[part][1], *texts])] if part in self.split else []
-        return lines
+            for part, types in self.parts(name):
+                by_types.setdefault(tuple(types), []).append(part)
+        if self.types_of(item.names[0])[1]:
+            added = {types: [part for part in parts if part not in item.names] for types, parts in by_types.items()}
+            return [self.own(item), *(declared(parts, types) for types, parts in added.items() if parts)]
+        return [declared(parts, types) for types, parts in by_types.items()]
 
     def new_types(self):
         """The datatypes for truth values and for what else a channel can't carry."""
@@ -79,7 +85,7 @@ class Declarations:
             if item.kind in ("datatype", "nametype", "subtype"):
                 lines += [" ".join(line.split()) for line in self.lines_of(item)]
             elif item.kind == "channel":
-                lines += [line for name in item.names for line in self.channel_lines(item._replace(names=[name])) if line != self.own(item)]
+                lines += [declared([part], types) for name in item.names for part, types in self.parts(name)]
         for name, definition in self.script.definitions.items():
             if keeper.is_data(name) and not keeper.fault([name]):
                 head, _, body = keeper.entry(name).lines[0].partition(" = ")

@@ -11,7 +11,11 @@ MOST_TERMS = 5
 
 def reduced(steps):
     """The graph without states that do nothing but one silent step, and with one state for those that are strongly bisimilar."""
+    smaller = merged(steps)
+    return smaller if len(smaller) == len(steps) else reduced(smaller)
 
+
+def merged(steps):
     def end(state):
         seen = set()
         while len(steps[state]) == 1 and steps[state][0][0] == TAU and state not in seen:
@@ -31,6 +35,22 @@ def reduced(steps):
             found[label, numbers[blocks[to]]] = None
         made.append(list(found))
     return made
+
+
+def endless_states(steps):
+    """The states from which silent steps can go on for ever."""
+    before, open_steps = collections.defaultdict(list), []
+    for state, own in enumerate(steps):
+        silent = {to for label, to in own if label == TAU}
+        open_steps.append(len(silent))
+        for to in silent:
+            before[to].append(state)
+    ended = [state for state, count in enumerate(open_steps) if count == 0]
+    for state in ended:
+        for other in before[state]:
+            open_steps[other] -= 1
+            ended += [other] if open_steps[other] == 0 else []
+    return set(range(len(steps))) - set(ended)
 
 
 def classes(steps):

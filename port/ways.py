@@ -17,9 +17,9 @@ class Ways:
     """The ways of a network's events: `visible`, and `hidden` by a hiding round a part of it."""
 
     def __init__(self, network):
-        self.network, self.hidden = network, collections.defaultdict(list)
-        self.visible = self.together(network.top)
-        self.of = {event: self.visible.get(event, []) + self.hidden.get(event, []) for event in in_order({*self.visible, *self.hidden})}
+        self.network, self.is_stable = network, False
+        while not self.is_stable:
+            self.find()
         for event, ways in self.of.items():
             for way in ways:
                 if len(way) > 2:
@@ -27,6 +27,19 @@ class Ways:
                     raise Refused(f"{spelled(event)} is done by {len(way)} components together, {names}: no rule of dlcheck takes an event of three (20); divide it into events of two")
         if sum(map(len, self.of.values())) > MOST_WAYS:
             raise Refused(f"with a name for each way the channels have more than {MOST_WAYS} events")
+
+    def find(self):
+        """The ways by what each component can do; where the network blocks some of that, the component may do less, and it has to be done again."""
+        self.hidden = collections.defaultdict(list)
+        self.visible, self.is_stable = self.together(self.network.top), True
+        self.of = {event: self.visible.get(event, []) + self.hidden.get(event, []) for event in in_order({*self.visible, *self.hidden})}
+        allowed = [set() for _ in self.network.leaves]
+        for index, event in (end for ways in self.of.values() for way in ways for end in way):
+            allowed[index].add(event)
+        for leaf in self.network.leaves:
+            does = done_within(leaf.steps, allowed[leaf.index])
+            self.is_stable = self.is_stable and does == leaf.does
+            leaf.does = does
 
     def titles(self, way):
         return [self.network.title(self.network.leaves[index]) for index in sorted(index for index, _ in way)]
@@ -73,6 +86,18 @@ class Ways:
         if count > MOST_WAYS:
             raise Refused(f"{spelled(event)} is done in more than {MOST_WAYS} ways")
         return [frozenset().union(*ways) for ways in itertools.product(*(part.get(event, []) for part in parts))]
+
+
+def done_within(steps, allowed):
+    """The events that a component does if it does none but these."""
+    seen, todo, found = {0}, [0], set()
+    for state in todo:
+        for label, to in steps[state]:
+            if label == TAU or label in allowed:
+                found.add(label)
+                todo += [] if to in seen else [to]
+                seen.add(to)
+    return frozenset(found - {TAU})
 
 
 class EventNames:
