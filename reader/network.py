@@ -6,7 +6,7 @@ import collections, pathlib, re, tempfile, time
 
 from layout import Layout
 from reports import ask, events_of, node_after, table_of, text_of
-from script import NoScript, lines_of
+from script import NOT_FOLLOWED, lines_of
 from values import Script
 
 # Two components, the left one first, and the events that both have in their alphabets.
@@ -16,7 +16,6 @@ Noted = collections.namedtuple("Noted", "name meaning events")
 KINDS = {"client-server": "roles", "resource": "resource"}
 MEANINGS = {"roles": ("requests made", "answers got", "requests taken", "answers given"), "resource": ("acquire", "release")}
 MOST_BYTES = 1_048_576
-NOT_FOLLOWED = (NoScript, ValueError, TypeError, AttributeError, KeyError, IndexError, RecursionError, StopIteration)
 
 
 class Network:

@@ -76,7 +76,7 @@ def blocked_events(network, part, trace):
     shown = [line for line in network.shown if not line.startswith("assert ")]
     with tempfile.TemporaryDirectory() as room:
         alone = pathlib.Path(room) / "alone.csp"
-        alone.write_text("\n".join([*shown, f"assert {own} : [ deadlock free ]", ""]))
+        alone.write_text("\n".join([*shown, f"assert {own} : [ deadlock free ]", ""]), encoding="utf-8")
         table = table_of(ask(network.program, ["table", str(alone), "0"], quiet=True))
     node = node_after(table, trace) if table else None
     if node is None:

@@ -11,6 +11,7 @@ from script import NoScript, tokens_of
 
 BINARY = {"or", "and", "==", "!=", "<", "<=", ">", ">=", "+", "-", "*", "/", "%"}
 SETS = ("union", "inter", "diff")
+MOST_DIGITS = 9
 
 
 class Parser:
@@ -25,8 +26,8 @@ class Parser:
 
     def take(self, wanted=None):
         token = self.tokens[self.at]
-        if wanted is not None and token != wanted:
-            raise NoScript(f"{token} and not {wanted}")
+        if token == "" or (wanted is not None and token != wanted):
+            raise NoScript(f"{token or 'the end'} and not {wanted}")
         self.at += 1
         return token
 
@@ -73,7 +74,7 @@ class Parser:
             return self.event(left)
         if token == "->":
             self.take()
-            return ("prefix", left[1], [], self.atom())
+            return ("prefix", name_of(left), [], self.atom())
         if token in BINARY:
             self.take()
             return (token, left, self.atom())
@@ -123,8 +124,10 @@ class Parser:
             fields.append(("in", name, values))
         if self.peek() == "->":
             self.take()
-            return ("prefix", head[1], fields, self.atom())
-        return ("dot", head[1], [field[2] for field in fields])
+            return ("prefix", name_of(head), fields, self.atom())
+        if any(field[0] == "in" for field in fields):
+            raise NoScript("an input in an expression")
+        return ("dot", name_of(head), [field[2] for field in fields])
 
     def part(self):
         """A channel with some of its fields, as in a production."""
@@ -171,7 +174,7 @@ class Parser:
         if token == "{":
             return self.braces()
         if token.isdigit():
-            return ("number", int(token))
+            return ("number", number_of(token))
         if token in ("true", "false"):
             return ("truth", token == "true")
         if token in ("STOP", "SKIP"):
@@ -205,6 +208,19 @@ class Parser:
             return ("those", items, found)
         self.take("}")
         return ("display", items)
+
+
+def number_of(numeral):
+    """The value of a numeral; those that are longer are beyond any number of the language."""
+    if len(numeral) > MOST_DIGITS:
+        raise NoScript("a numeral that is too long")
+    return int(numeral)
+
+
+def name_of(tree):
+    if tree[0] != "name":
+        raise NoScript("no name")
+    return tree[1]
 
 
 def written(tree):

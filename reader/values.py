@@ -4,7 +4,7 @@ This serves the reader of reports alone, and it proves nothing. Where it can't f
 import collections
 
 from script import NoScript
-from trees import Parser
+from trees import BINARY, Parser
 
 Const = collections.namedtuple("Const", "order name")
 Event = collections.namedtuple("Event", "channel fields")
@@ -36,7 +36,7 @@ class Script:
     def __init__(self, shown):
         self.shown = shown
         self.channels, self.consts, self.datatypes, self.names, self.definitions = {}, {}, {}, {}, {}
-        self.notes, self.asserted, self.parsed, self.types, self.steps = [], None, {}, {}, 0
+        self.notes, self.asserted, self.parsed, self.types, self.steps, self.channel_names = [], None, {}, {}, 0, []
         for number, line in enumerate(shown):
             self.declare(number, line)
 
@@ -48,6 +48,7 @@ class Script:
             for name in names.split(" , "):
                 self.names.setdefault(name, number)
                 self.channels[name] = (len(self.channels), types)
+                self.channel_names.append(name)
         elif line.startswith("datatype "):
             name, _, constants = line[9:].partition(" = ")
             self.names.setdefault(name, number)
@@ -102,7 +103,7 @@ class Script:
     def value(self, tree, bound):
         self.count()
         form = tree[0]
-        if form in ("number", "truth", "given"):
+        if form in ("number", "truth"):
             return tree[1]
         if form == "name":
             return self.named(tree, bound)
@@ -144,6 +145,8 @@ class Script:
 
     def computed(self, tree, bound):
         form = tree[0]
+        if form not in BINARY:
+            raise NoScript(f"{form} has no value")
         if len(tree) == 2:
             return self.in_range(tree, -self.number(tree[1], bound))
         if form in ("==", "!="):
@@ -277,7 +280,7 @@ class Script:
         if isinstance(value, Const):
             return value.name
         if isinstance(value, Event):
-            return ".".join([list(self.channels)[value.channel], *(self.text(field) for field in value.fields)])
+            return ".".join([self.channel_names[value.channel], *(self.text(field) for field in value.fields)])
         if isinstance(value, frozenset):
             return "{" + ", ".join(self.text(item) for item in sorted(value)) + "}"
         return f"({value})" if value < 0 else str(value)
