@@ -7,12 +7,13 @@ It proves nothing. It asks the program, and passes its report and its status on 
   --draw SCRIPT INDEX                           a component's table, for Graphviz
   --draw SCRIPT                                 the components and links, for Graphviz
   --page RULE SCRIPT FILE.html                  the same in one file for a browser, with pictures, the script and steps
-  --annotate roles SCRIPT, or resource SCRIPT   the script with annotations and the sets that they need, as the components' tables suggest them"""
+  --annotate roles SCRIPT, or resource SCRIPT   the script with annotations and the sets that they need, as the components' tables suggest them
+  --alphabets SCRIPT                            for each component the events that its text does, beside its alphabet"""
 import pathlib, signal, sys, traceback
 
 sys.dont_write_bytecode = True
 sys.path.insert(0, str(pathlib.Path(__file__).resolve().parent))
-import annotate, draw, explain, forms, outputs, page
+import alphabets, annotate, draw, explain, forms, outputs, page
 
 # A word, and what it does: a function of the program and of the words behind it. It gives the status, or nothing where the words are none of its own.
 COMMANDS = {
@@ -20,6 +21,7 @@ COMMANDS = {
     "--draw": draw.command,
     "--page": page.command,
     "--annotate": annotate.command,
+    "--alphabets": alphabets.command,
 }
 NO_COMMAND, NOT_WRITTEN, FAILED = 3, 4, 70
 DEEPEST = 20_000

@@ -36,7 +36,7 @@ class Script:
     def __init__(self, shown):
         self.shown = shown
         self.channels, self.consts, self.datatypes, self.names, self.definitions = {}, {}, {}, {}, {}
-        self.notes, self.asserted, self.parsed, self.types, self.steps, self.channel_names = [], None, {}, {}, 0, []
+        self.notes, self.asserted, self.asserted_at, self.parsed, self.types, self.steps, self.channel_names = [], None, None, {}, {}, 0, []
         for number, line in enumerate(shown):
             self.declare(number, line)
 
@@ -58,7 +58,8 @@ class Script:
                 members.append(self.consts[constant])
             self.datatypes[name] = frozenset(members)
         elif line.startswith("assert "):
-            self.asserted = self.asserted or line[7:].rsplit(" : [ deadlock free ]", 1)[0]
+            if not self.asserted:
+                self.asserted, self.asserted_at = line[7:].rsplit(" : [ deadlock free ]", 1)[0], number
         else:
             head, _, body = (line[9:] if line.startswith("nametype ") else line).partition(" = ")
             name, _, parameters = head.partition(" ( ")
