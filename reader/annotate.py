@@ -1,9 +1,10 @@
 """Proposes annotations for a script: who asks and who answers, or what is a resource, with the sets that this needs, found from the components' tables.
 
 It proves nothing: `check` judges the script that it prints."""
-import collections, concurrent.futures, os, pathlib, sys, tempfile
+import collections, concurrent.futures, os, pathlib, tempfile
 
 from network import KINDS, Network
+from outputs import pass_on, send, warn
 from reports import ask, text_of
 from find_roles import Roles, asked, in_order, named_events
 from script import NoScript, tokens_of
@@ -23,8 +24,7 @@ class NoAnnotation(Exception):
 
 
 def told(*lines):
-    for line in lines:
-        print(f"dlcheck: {line}" if not line.startswith(" ") else line, file=sys.stderr)
+    warn(*(line if line.startswith(" ") else f"dlcheck: {line}" for line in lines))
 
 
 # what the sets hold
@@ -267,7 +267,7 @@ def network_of(program, script):
 def annotate(program, kind, script):
     network, refusal = network_of(program, script)
     if refusal:
-        sys.stdout.buffer.write(refusal.sent)
+        pass_on(refusal)
         return refusal.status
     told(TOP_LINE.format(RULE[kind]))
     if not network.components or (network.count > 1 and any(component.alphabet is None for component in network.components)):
@@ -277,7 +277,7 @@ def annotate(program, kind, script):
         looked_at(network, kind)
         if not network.links():
             told("no two components share an event, so no annotation is needed")
-            sys.stdout.buffer.write(network.content)
+            send(network.content)
             return 0
         sets, lines, fits = roles_of(network) if kind == "roles" else uses_of(network)
         proposal = Proposal(network, kind, sets)
@@ -289,7 +289,7 @@ def annotate(program, kind, script):
         return 70
     readings = [line for line in lines if line.startswith(" ")]
     told(*readings[:MOST_NAMED], *([f"  and {len(readings) - MOST_NAMED} more"] if len(readings) > MOST_NAMED else []), *lines[len(readings) :])
-    sys.stdout.buffer.write(proposal.text())
+    send(proposal.text())
     return 0 if fits else 1
 
 

@@ -1,9 +1,11 @@
 """What is told beside a report: what the page says of it, and what it names of the script and the network. It proves nothing."""
-import collections, re, sys
+import collections, re
 
 from comparing import about_outside, about_refusal
+from forms import RULES, is_of_program, script_places
 from hidden import about_bound, about_hidden, about_no_order, about_no_set
 from network import KINDS, NOT_FOLLOWED, Network
+from outputs import pass_on, say
 from orders import about_circle, about_ends, about_order, cause_of, way_of
 from pages import language_rows, section, signs_of
 from parts import about_links, about_part, about_stop
@@ -11,12 +13,9 @@ from refusals import ABOUT as REFUSALS, about_components_differ, about_events_di
 from reports import ask, table_of, told_by
 from roles import about_clients, about_roles, answers_of
 from runs import about_run, about_tries
-from texts import MOST_NAMED, TOP_LINE, indented, say
+from texts import MOST_NAMED, TOP_LINE, indented, plain
 from uses import about_resources, about_uses
 
-# The words of each command: how many there are, and which are scripts.
-COMMANDS = {"check": (3, (2,)), "table": (3, (1,)), "show": (2, (1,)), "run": (4, (1,)), "livelock": (3, (1,)), "conform": (3, (1, 2)), "trial": (3, ())}
-RULES = ("cyclic", "client-server", "resource")
 # What is told of the answer with a number: a function of the network and of what the report tells; of two networks for the second.
 ABOUT = {
     **REFUSALS, "21": about_stop, "23": about_order, "24": about_circle, "25": about_ends, "26": about_roles, "27": about_clients, "28": about_uses, "29": about_resources,
@@ -33,19 +32,19 @@ def command(program, words):
         return explain_script(program, words[0])
     if len(words) == 2 and words[0] in RULES:
         words = ["check", *words]
-    if words[:1] and words[0] in COMMANDS and len(words) == COMMANDS[words[0]][0]:
+    if is_of_program(words):
         return explain_report(program, words)
     return None
 
 
 def explain_report(program, words):
-    networks = [Network(program, words[place]) for place in COMMANDS[words[0]][1]]
+    places = script_places(words)
+    networks = [Network(program, words[place]) for place in places]
     asked = list(words)
-    for place, network in zip(COMMANDS[words[0]][1], networks):
+    for place, network in zip(places, networks):
         asked[place] = network.file
     report = ask(program, asked)
-    sys.stdout.buffer.write(report.sent)
-    sys.stdout.flush()
+    pass_on(report)
     told = told_by(asked, report)
     say("", TOP_LINE, *explanation(told, *networks))
     return report.status
@@ -137,7 +136,7 @@ def about_place(network, told):
         line, column = told.place
         # columns count bytes
         front = lines[line - 1].encode(errors="replace")[: column - 1].decode(errors="replace")
-        found += ["", f"Line {line}, column {column}:", "", "  " + lines[line - 1].replace("\t", " "), "  " + " " * len(front) + "^"]
+        found += ["", f"Line {line}, column {column}:", "", "  " + lines[line - 1].rstrip("\r").replace("\t", " "), "  " + " " * len(plain(front)) + "^"]
     if told.declaration is not None and told.declaration < len(network.shown):
         found += ["", f"{network.place(told.declaration).capitalize()}:", "", *("  " + line for line in network.text(told.declaration))]
     return found
@@ -179,8 +178,7 @@ def explain_script(program, script):
     first = ask(program, words)
     table = table_of(first)
     if not table:
-        sys.stdout.buffer.write(first.sent)
-        sys.stdout.flush()
+        pass_on(first)
         say("", TOP_LINE, *explanation(told_by(words, first), network))
         return first.status
     say(TOP_LINE)

@@ -5,7 +5,7 @@ from script import NoScript
 from terms import terms_of
 from texts import MOST_NAMED, counted, listed
 from trees import Parser, operand, written
-from values import Event, NoValue
+from values import KINDS, Event, NoValue
 
 
 def about_value(network, told):
@@ -65,7 +65,9 @@ def annotations(script, component):
     for note in script.notes:
         if note[1] == component.name:
             for name in note[2:]:
-                script.set_of(("call", name, [("given", value) for value in component.values]), {})
+                found = script.used(("name", name), component.values)
+                if type(found) is not frozenset:
+                    raise NoValue("Kind", ("name", name), f"is {KINDS[type(found)]}, and a set is needed")
 
 
 def fault_lines(network, fault):

@@ -28,7 +28,7 @@ def section(number, keys=()):
     if not page:
         return None, None
     kept, inside = [], False
-    for line in page.read_text().splitlines():
+    for line in page.read_text(encoding="utf-8").splitlines():
         if line.startswith("## "):
             head = line[3:]
             inside = head == number or head.split()[0] == number
@@ -72,7 +72,7 @@ def bullets_for(lines, keys):
 def table_rows():
     """The table of the page on the language: its head, and groups of rows, each with what it is about."""
     page = page_named("LANGUAGE.md")
-    table = re.search(r"<!-- begin: rows -->\n(.*?)<!-- end -->", page.read_text(), re.S) if page else None
+    table = re.search(r"<!-- begin: rows -->\n(.*?)<!-- end -->", page.read_text(encoding="utf-8"), re.S) if page else None
     groups = [group.split("\n") for group in table[1].split("\n\n")] if table else []
     head = groups[0][0] if groups else ""
     return head[4:], [[line[4:] for line in group] for group in groups[1:]]

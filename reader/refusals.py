@@ -1,6 +1,7 @@
 """What a refusal names in the script: names, assertions, alphabets, sizes. It proves nothing."""
 import difflib, re
 
+from alphabets import own_alphabets
 from faults import about_count, about_end, about_growth, about_silence, about_value, holds, uses_in
 from layout import Layout
 from network import NOT_FOLLOWED
@@ -9,6 +10,7 @@ from trees import Parser, written
 
 # Words that are reserved and stand for nothing here.
 UNUSED = ("external", "lambda", "module", "subtype", "timed", "transparent")
+MOST_LINES = 6
 ASSERTION = re.compile(r"^\s*assert\b(.*)$")
 
 
@@ -182,8 +184,29 @@ def about_nesting(network, told):
         found = ["", f"The network of {who} is given an alphabet that is not theirs:"]
         found += [f"  not in it: {listed(lacks)}, of {listed([network.short(part) for part in holders(network, operand, lacks[0])])}"] if lacks else []
         found += [f"  in it, and of none of them: {listed(besides)}"] if besides else []
-        return found + [f"  all that they have: {listed(script.texts(own))}"]
+        return found + [f"  all that they have: {listed(script.texts(own))}"] + text_lines(network, operand, set(lacks), set(besides))
     return []
+
+
+def text_lines(network, operand, lacks, besides):
+    """Of the components of an operand what their texts do of the events on which the alphabets differ: so it is seen which alphabet is meant."""
+    found = []
+    for own in own_alphabets(network, range(operand.first, operand.end)):
+        if own.does is None or own.alphabet is None or len(found) >= MOST_LINES:
+            continue
+        who, texts = network.short(own.part), network.script.texts
+        where, given = network.line_of(network.defined(own.part)), network.line_of(own.declaration)
+        missing = [event for event in texts(own.does - own.alphabet) if event in besides]
+        found += [f"  {who} does {listed(missing, 6)}{where}, its alphabet{given} lacks {them(missing)}: put {them(missing)} there"] if missing else []
+        meant = [event for event in texts(own.does & own.alphabet) if event in lacks]
+        found += [f"  {who} does {listed(meant, 6)}{where}: put {them(meant)} into the outer alphabet"] if meant else []
+        idle = [event for event in texts(own.alphabet - own.does) if event in lacks]
+        found += [f"  {who} never does {listed(idle, 6)}{where}: take {them(idle)} out of its alphabet{given}"] if idle else []
+    return found
+
+
+def them(events):
+    return "it" if len(events) == 1 else "them"
 
 
 def holders(network, operand, event):
