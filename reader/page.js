@@ -9,7 +9,7 @@ const view = { selected: data.culprits[0] || 0, walk: null, zoom: null, parts: d
 const at = (id) => document.getElementById(id);
 const firstPicture = document.querySelector("#picture svg");
 const canStep = data.parts.length > 0 && data.parts.every((part) => part.table);
-const MOST_BUTTONS = 40, MANY_BUTTONS = 12, FEW_EVENTS = 4, MANY_EVENTS = 24, MOST_WAITS = 12, MOST_OFFERS = 12, NEAR_NODES = 14;
+const MOST_BUTTONS = 40, MANY_BUTTONS = 12, FEW_EVENTS = 4, MANY_EVENTS = 24, MOST_WAITS = 12, MOST_OFFERS = 12, NEAR_NODES = 14, MOST_IN_RING = 120;
 
 function el(tag, attributes, ...children) {
   const made = document.createElement(tag);
@@ -476,7 +476,7 @@ function showPictureOfMoment() {
   if (view.picture === "waiting") {
     if (view.ring.length > 1) showWaiting();
     else showFirstPicture();
-  } else if (view.ring.some((part) => !view.parts.includes(part))) showWaiting();
+  } else if (view.ring.length <= MOST_IN_RING && view.ring.some((part) => !view.parts.includes(part))) showWaiting();
 }
 
 function pickedText({ chosen, before }) {
