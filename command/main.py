@@ -3,6 +3,11 @@
 
 ./dlcheck calls it where it doesn't run the program at once. STATE is what it found: `proved` or `unproved`, where PROGRAM is it, or `open`, where the file system alone
 doesn't tell whether a program of these sources is there. It ends with the status of the program or of the reader, or with 70 where the command itself fails."""
+import signal
+
+if signal.getsignal(signal.SIGINT) is signal.default_int_handler:
+    # no traceback where that comes before all is read
+    signal.signal(signal.SIGINT, signal.SIG_DFL)
 import contextlib, importlib, os, pathlib, sys
 
 sys.dont_write_bytecode = True

@@ -1,8 +1,8 @@
 """The program that answers: the proved one, or the unproved one, which is built when it is first needed."""
-import os, subprocess, sys
+import os, signal, subprocess, sys
 
 import builder, sources, stamps
-from console import Fault, say, shown
+from console import Fault, Stopped, say, shown
 from places import HOME, IS_REPOSITORY, PROVED, PROVED_STAMP, TOP
 from words import PROGRAM, find, program_usage, scripts_in
 
@@ -92,8 +92,25 @@ class Program:
     def run_tool(self, tool, words, form):
         """Has a tool answer; its status."""
         asked = ["--program", self.for_tool(words, form)] if tool.asks_program else []
-        done = subprocess.run([sys.executable, "-B", HOME / tool.file, *asked, *words[0 if tool.takes_first else 1:]])
-        return done.returncode if done.returncode >= 0 else 128 - done.returncode
+        child = subprocess.Popen([sys.executable, "-I", "-S", "-B", HOME / tool.file, *asked, *words[0 if tool.takes_first else 1:]])
+        try:
+            status = child.wait()
+        except Stopped as stopped:
+            end_child(child, stopped.number)
+            raise
+        return status if status >= 0 else 128 - status
+
+
+def end_child(child, number):
+    """Has a tool end by the signal that came here, and tidy up. One of the keyboard has come to it too."""
+    for seconds, sent in ((1 if number == signal.SIGINT else 0, None), (5, number), (5, signal.SIGKILL)):
+        if sent:
+            child.send_signal(sent)
+        try:
+            child.wait(seconds)
+            return
+        except subprocess.TimeoutExpired:
+            pass
 
 
 def lack_of(script):

@@ -57,7 +57,7 @@ COMMANDS = (
     Command("--help", ("",), "help.show", "prints all commands"),
     Command("--prove", ("",), "proving.prove", "proves and builds the program; later calls run it", is_local=True),
     Command("--install", ("DIR",), "installing.install", "the same, and puts the command into DIR, and what belongs to it under DIR/../lib and DIR/../share", is_local=True),
-    Command("--uninstall", ("DIR",), "installing.uninstall", "takes away what --install put there"),
+    Command("--uninstall", ("DIR",), "installing.uninstall", "takes away what was installed with the command in DIR"),
     Command("--test", ("",), "testing.test", "runs the tests over the program that is there; the status is 0 where all pass", is_local=True),
 )
 # what .ci/run says once the gate has passed and left its program; before it began, --version said this
