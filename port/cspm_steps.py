@@ -71,10 +71,6 @@ class Terms(Values):
     def of_slide(self, tree, bound):
         return Proc(("slide", *self.operands(tree, bound)))
 
-    def of_throw(self, tree, bound):
-        left, events, right = tree.parts
-        return Proc(("throw", self.process(left, bound), self.events(events, bound), right, self.bound_of(right, bound)))
-
     def of_hide(self, tree, bound):
         return hidden(self.process(tree.parts[0], bound), self.events(tree.parts[1], bound))
 
@@ -100,9 +96,6 @@ class Terms(Values):
     def of_apar(self, tree, bound):
         left, first, second, right = tree.parts
         return Proc(("apar", self.process(left, bound), self.events(first, bound), self.events(second, bound), self.process(right, bound)))
-
-    def of_linked(self, tree, bound):
-        raise Refused("a linked parallel [a <-> b] is not taken: give both ends one name and use [| |]")
 
     def of_each(self, tree, bound):
         sign, gens, events, body = tree.parts
@@ -160,32 +153,24 @@ class Processes(Terms):
     def steps_prefix(self, proc):
         head, fields, body = proc[1].parts
         bound = dict(proc[2])
-        rows = [(atoms_of(self.value(head, bound)), bound, ())]
+        rows = [(atoms_of(self.value(head, bound)), bound)]
         for place, field in enumerate(fields):
-            rows = [new for row in rows for new in self.extended(row, *field, place + 1 == len(fields))]
-        groups = {}
-        for row, inner, drawn in rows:
+            rows = [new for row in rows for new in self.extended(*row, *field, place + 1 == len(fields))]
+        for row, _ in rows:
             if self.following(row) is not None:
                 raise Refused(f"{spelled(Dot(row))} lacks fields")
-            groups.setdefault(drawn, []).append((Dot(row), self.bound_of(body, inner)))
-        menus = [Proc(("menu", tuple(sorted(groups[drawn], key=lambda item: order(item[0]))), body)) for drawn in in_order(groups)]
-        # without a `$` nothing is drawn, and the menu is open at once
-        return [(TAU, menu) for menu in menus] if any(groups) else [step for menu in menus for step in self.steps_menu(menu)]
+        return [(Dot(row), self.process(body, inner)) for row, inner in rows]
 
-    def steps_menu(self, proc):
-        return [(event, self.process(proc[2], dict(inner))) for event, inner in proc[1]]
-
-    def extended(self, row, sign, tree, among, is_last):
-        """The ways to fill the next field of an event: its atoms, the bound names, and the values that `$` drew."""
-        begun, bound, drawn = row
+    def extended(self, begun, bound, sign, tree, among, is_last):
+        """The ways to fill the next field of an event: its atoms, and the bound names."""
         if sign in (".", "!") or (tree.form == "name" and self.script.constructors.get(tree.parts[0])):
-            return [(begun + atoms_of(self.value(tree, bound)), bound, drawn)]
+            return [(begun + atoms_of(self.value(tree, bound)), bound)]
         allowed, rows = None if among is None else self.value(among, bound), []
         for new in self.filled(begun, is_last):
             value = joined_atoms(new[len(begun) :])
             inner = self.match(tree, value, bound)
             if inner is not None and (allowed is None or value in allowed):
-                rows.append((new, inner, drawn + (value,) if sign[0] == "$" else drawn))
+                rows.append((new, inner))
         return rows
 
     def filled(self, begun, to_end):
@@ -225,14 +210,6 @@ class Processes(Terms):
     def steps_slide(self, proc):
         _, left, right = proc
         return [(TAU, Proc(("slide", after, right))) if label == TAU else (label, after) for label, after in self.steps(left)] + [(TAU, right)]
-
-    def steps_throw(self, proc):
-        _, left, events, tree, bound = proc
-        found = []
-        for label, after in self.steps(left):
-            caught = label in events
-            found.append((label, self.process(tree, dict(bound)) if caught else after if label == TICK else Proc(("throw", after, events, tree, bound))))
-        return found
 
     def steps_hide(self, proc):
         return [(TAU if label in proc[2] else label, after if label == TICK else hidden(after, proc[2])) for label, after in self.steps(proc[1])]
