@@ -4,10 +4,18 @@ from cspm_tokens import Clause, Declared, Definition, Gen, Node, Refused, tokens
 WORDS = set("channel datatype subtype nametype assert external transparent include print module endmodule exports let within if then else and or not STOP SKIP".split())
 # Signs between two processes, the loosest first.
 LEVELS = [("\\",), ("|||",), ("[|", "["), ("|~|",), ("[]",), ("/\\",), ("[>",), (";",)]
-FORMS = {"|||": "inter", "|~|": "int", "[]": "ext", "/\\": "interrupt", "[>": "slide", ";": "then"}
+FORMS = {"\\": "hide", "|||": "inter", "|~|": "int", "[]": "ext", "/\\": "interrupt", "[>": "slide", ";": "then"}
 # Signs between two data, the loosest first; `not` stands between the second level and the third.
 DATA_LEVELS = [("or",), ("and",), ("==", "!=", "<", "<=", ">", ">="), ("+", "-"), ("*", "/", "%")]
 COMPARED, SUM = 2, 3
+LACKING = {
+    "<->": "a linked parallel [a <-> b] is not taken: give both ends one name and use [| |]",
+    "|>": "an exception [|X|> is not taken",
+    "$": "a nondeterministic field $ is not taken: write an internal choice over its values",
+    "\\": "a lambda is not taken: give the function a name",
+}
+# How brackets close, and the forms that stand in them: a list, a range, a comprehension.
+DISPLAYED = {"(": (")", "tuple", None, None), "{": ("}", "set", "range", "comp"), "<": (">", "seq", "seqrange", "seqcomp"), "{|": ("|}", "prods", None, "prods")}
 REPLICATED = ("[]", "|~|", "|||", "||", ";", "[|")
 
 
@@ -75,32 +83,16 @@ class Expressions(Tokens):
         return self.within(False, self.tree)
 
     def joined(self, sign, left, level):
-        if sign == "\\":
-            return Node("hide", left, self.tree(level))
-        if sign == "[|":
-            events = self.inner()
-            if self.taken("|>"):
-                return Node("throw", left, events, self.tree(level))
-            self.take("|]")
-            return Node("par", left, events, self.tree(level))
+        if sign in FORMS:
+            return Node(FORMS[sign], left, self.tree(level))
+        sets = [self.inner()]
+        if self.peek() in LACKING:
+            raise Refused(f"line {self.line()}: {LACKING[self.peek()]}")
         if sign == "[":
-            return self.joined_by_sets(left, level)
-        return Node(FORMS[sign], left, self.tree(level))
-
-    def joined_by_sets(self, left, level):
-        first = self.inner()
-        if self.taken("<->"):
-            pairs = [(first, self.inner())]
-            while self.taken(","):
-                first = self.inner()
-                self.take("<->")
-                pairs.append((first, self.inner()))
-            self.take("]")
-            return Node("linked", left, pairs, self.tree(level))
-        self.take("||")
-        second = self.inner()
-        self.take("]")
-        return Node("apar", left, first, second, self.tree(level))
+            self.take("||")
+            sets.append(self.inner())
+        self.take("]" if sign == "[" else "|]")
+        return Node("apar" if sign == "[" else "par", left, *sets, self.tree(level))
 
     def prefixed(self):
         left = self.communicated()
@@ -114,21 +106,19 @@ class Expressions(Tokens):
         return left
 
     def communicated(self):
-        """An expression with fields: `.` and `!` for values, `?` and `$` for inputs."""
+        """An expression with fields: `.` and `!` for values, `?` for inputs, and `.` behind an input for another one."""
         left = self.data()
-        if self.peek() not in (".", "!", "?", "$"):
+        if self.peek() not in (".", "!", "?"):
             return left
-        fields, last = [], "."
-        while self.peek() in (".", "!", "?", "$"):
+        fields = []
+        while self.peek() in (".", "!", "?"):
             sign = self.take()
-            if sign == "." and last in ("?", "$"):
-                sign = last + "."
-            if sign[0] in "?$":
-                pattern = self.concatenated()
-                fields.append((sign, pattern, self.data() if self.taken(":") else None))
-            else:
-                fields.append((sign, self.data(SUM), None))
-            last = sign[0]
+            if sign == "." and fields and fields[-1][0][0] == "?":
+                sign = "?."
+            pattern = self.concatenated() if sign[0] == "?" else self.data(SUM)
+            fields.append((sign, pattern, self.data() if sign[0] == "?" and self.taken(":") else None))
+        if self.peek() == "$":
+            raise Refused(f"line {self.line()}: {LACKING['$']}")
         if all(sign == "." for sign, _, _ in fields) and self.peek() != "->":
             return Node("dot", [left, *(item for _, item, _ in fields)])
         return Node("event", left, fields)
@@ -188,15 +178,13 @@ class Expressions(Tokens):
             return Node("num", int(self.take()))
         if token in ("STOP", "SKIP"):
             return Node(self.take().lower())
-        if token in ("(", "<", "{|", "{"):
-            return self.within(token == "<", getattr(self, {"(": "parenthesised", "<": "angled", "{|": "productions", "{": "braced"}[token]))
         if self.taken("<>"):
             return Node("seq", [])
+        if token in DISPLAYED:
+            return self.within(token == "<", lambda: self.displayed(self.take(), *DISPLAYED[token]))
         if self.kind() == "name" and token not in WORDS:
             return Node("name", self.take())
-        if token == "\\":
-            raise Refused(f"line {self.line()}: a lambda is not taken: give the function a name")
-        raise Refused(f"line {self.line()}: {token or 'the end'} stands where an expression is expected")
+        raise Refused(f"line {self.line()}: {LACKING.get(token, f'{token or chr(39) * 2} stands where an expression is expected')}")
 
     def opened(self):
         """What reaches as far right as it can: if, let, a replicated form."""
@@ -227,33 +215,16 @@ class Expressions(Tokens):
         first = self.communicated()
         return Gen(first, self.communicated()) if self.taken(":") or self.taken("<-") else Gen(None, first)
 
-    def parenthesised(self):
-        self.take("(")
-        items = self.listed(self.tree, ")")
-        self.take(")")
-        return Node("paren", items[0]) if len(items) == 1 else Node("tuple", items)
-
-    def productions(self):
-        self.take("{|")
-        items = self.listed(self.communicated, "|}")
-        found = Node("prods", items, self.generators())
-        self.take("|}")
-        return found
-
-    def braced(self):
-        return self.displayed("{", "}", "set", "range", "comp")
-
-    def angled(self):
-        return self.displayed("<", ">", "seq", "seqrange", "seqcomp")
-
     def displayed(self, begin, end, plain, ranged, comprehended):
-        self.take(begin)
-        items = self.listed(self.tree, end)
-        if self.taken(".."):
+        """What stands in brackets."""
+        items = self.listed(self.communicated if begin == "{|" else self.tree, end)
+        if begin == "(" and len(items) == 1:
+            found = Node("paren", items[0])
+        elif ranged and self.taken(".."):
             if self.peek() == end:
                 raise Refused(f"line {self.line()}: a range without an end is not finite")
             found = Node(ranged, items[0], self.tree())
-        elif self.peek() == "|":
+        elif comprehended and (begin == "{|" or self.peek() == "|"):
             found = Node(comprehended, items, self.generators())
         else:
             found = Node(plain, items)

@@ -41,42 +41,12 @@ class Terms(Values):
                 raise Refused(f"{spelled(event)} stands in a set of events and is no whole event")
         return found
 
-    def of_stop(self, tree, bound):
-        return STOP
-
-    def of_skip(self, tree, bound):
-        return SKIP
-
-    def of_prefix(self, tree, bound):
-        return Proc(("prefix", tree, self.bound_of(tree, bound)))
-
-    def of_guard(self, tree, bound):
-        return self.process(tree.parts[1], bound) if self.truth(tree.parts[0], bound) else STOP
+    def value(self, tree, bound):
+        found = SHORT_PROCESSES.get(tree.form)
+        return found(self, tree, tree.parts, bound) if found else super().value(tree, bound)
 
     def operands(self, tree, bound):
         return [self.process(part, bound) for part in tree.parts]
-
-    def of_ext(self, tree, bound):
-        return choice("ext", self.operands(tree, bound))
-
-    def of_int(self, tree, bound):
-        return choice("int", self.operands(tree, bound))
-
-    def of_then(self, tree, bound):
-        return Proc(("then", self.process(tree.parts[0], bound), tree.parts[1], self.bound_of(tree.parts[1], bound)))
-
-    def of_interrupt(self, tree, bound):
-        return Proc(("interrupt", *self.operands(tree, bound)))
-
-    def of_slide(self, tree, bound):
-        return Proc(("slide", *self.operands(tree, bound)))
-
-    def of_throw(self, tree, bound):
-        left, events, right = tree.parts
-        return Proc(("throw", self.process(left, bound), self.events(events, bound), right, self.bound_of(right, bound)))
-
-    def of_hide(self, tree, bound):
-        return hidden(self.process(tree.parts[0], bound), self.events(tree.parts[1], bound))
 
     def pairs_of(self, tree, bound):
         """The events that a renaming takes to others, as pairs."""
@@ -86,23 +56,6 @@ class Terms(Values):
                 begun, new = atoms_of(self.value(left, inner)), atoms_of(self.value(right, inner))
                 found.update((event, Dot(new + tuple(event[len(begun) :]))) for event in self.extensions(begun))
         return frozenset(found)
-
-    def of_rename(self, tree, bound):
-        return Proc(("rename", self.process(tree.parts[0], bound), self.pairs_of(tree, bound)))
-
-    def of_par(self, tree, bound):
-        return Proc(("par", self.process(tree.parts[0], bound), self.events(tree.parts[1], bound), self.process(tree.parts[2], bound)))
-
-    def of_inter(self, tree, bound):
-        one, other = self.operands(tree, bound)
-        return Proc(("par", one, NONE, other))
-
-    def of_apar(self, tree, bound):
-        left, first, second, right = tree.parts
-        return Proc(("apar", self.process(left, bound), self.events(first, bound), self.events(second, bound), self.process(right, bound)))
-
-    def of_linked(self, tree, bound):
-        raise Refused("a linked parallel [a <-> b] is not taken: give both ends one name and use [| |]")
 
     def of_each(self, tree, bound):
         sign, gens, events, body = tree.parts
@@ -136,56 +89,34 @@ class Processes(Terms):
 
     def steps(self, proc):
         if proc not in self.stepped:
+            found = SHORT_STEPS.get(proc[0])
             try:
-                self.stepped[proc] = getattr(self, "steps_" + proc[0])(proc)
+                self.stepped[proc] = found(self, *proc[1:]) if found else getattr(self, "steps_" + proc[0])(*proc[1:])
             except RecursionError:
                 raise Refused("a process calls itself without end before it does anything") from None
         return self.stepped[proc]
 
-    def steps_stop(self, proc):
-        return []
-
-    def steps_skip(self, proc):
-        return [(TICK, STOP)]
-
-    def steps_run(self, proc):
-        return [(event, proc) for event in in_order(proc[1])]
-
-    def steps_chaos(self, proc):
-        return [(TAU, STOP), *((TAU, Proc(("once", event, proc))) for event in in_order(proc[1]))]
-
-    def steps_once(self, proc):
-        return [(proc[1], proc[2])]
-
-    def steps_prefix(self, proc):
-        head, fields, body = proc[1].parts
-        bound = dict(proc[2])
-        rows = [(atoms_of(self.value(head, bound)), bound, ())]
+    def steps_prefix(self, tree, values):
+        head, fields, body = tree.parts
+        bound = dict(values)
+        rows = [(atoms_of(self.value(head, bound)), bound)]
         for place, field in enumerate(fields):
-            rows = [new for row in rows for new in self.extended(row, *field, place + 1 == len(fields))]
-        groups = {}
-        for row, inner, drawn in rows:
+            rows = [new for row in rows for new in self.extended(*row, *field, place + 1 == len(fields))]
+        for row, _ in rows:
             if self.following(row) is not None:
                 raise Refused(f"{spelled(Dot(row))} lacks fields")
-            groups.setdefault(drawn, []).append((Dot(row), self.bound_of(body, inner)))
-        menus = [Proc(("menu", tuple(sorted(groups[drawn], key=lambda item: order(item[0]))), body)) for drawn in in_order(groups)]
-        # without a `$` nothing is drawn, and the menu is open at once
-        return [(TAU, menu) for menu in menus] if any(groups) else [step for menu in menus for step in self.steps_menu(menu)]
+        return [(Dot(row), self.process(body, inner)) for row, inner in rows]
 
-    def steps_menu(self, proc):
-        return [(event, self.process(proc[2], dict(inner))) for event, inner in proc[1]]
-
-    def extended(self, row, sign, tree, among, is_last):
-        """The ways to fill the next field of an event: its atoms, the bound names, and the values that `$` drew."""
-        begun, bound, drawn = row
+    def extended(self, begun, bound, sign, tree, among, is_last):
+        """The ways to fill the next field of an event: its atoms, and the bound names."""
         if sign in (".", "!") or (tree.form == "name" and self.script.constructors.get(tree.parts[0])):
-            return [(begun + atoms_of(self.value(tree, bound)), bound, drawn)]
+            return [(begun + atoms_of(self.value(tree, bound)), bound)]
         allowed, rows = None if among is None else self.value(among, bound), []
         for new in self.filled(begun, is_last):
             value = joined_atoms(new[len(begun) :])
             inner = self.match(tree, value, bound)
             if inner is not None and (allowed is None or value in allowed):
-                rows.append((new, inner, drawn + (value,) if sign[0] == "$" else drawn))
+                rows.append((new, inner))
         return rows
 
     def filled(self, begun, to_end):
@@ -200,56 +131,34 @@ class Processes(Terms):
                 (todo if to_end and self.following(new) is not None else found).append(new)
         return found
 
-    def steps_ext(self, proc):
+    def steps_ext(self, parts):
         found = []
-        for at, part in enumerate(proc[1]):
+        for at, part in enumerate(parts):
             for label, after in self.steps(part):
-                found.append((TAU, choice("ext", [*proc[1][:at], after, *proc[1][at + 1 :]])) if label == TAU else (label, after))
+                found.append((TAU, choice("ext", [*parts[:at], after, *parts[at + 1 :]])) if label == TAU else (label, after))
         return found
 
-    def steps_int(self, proc):
-        return [(TAU, part) for part in proc[1]]
-
-    def steps_then(self, proc):
-        _, first, tree, bound = proc
+    def steps_then(self, first, tree, bound):
         return [(TAU, self.process(tree, dict(bound))) if label == TICK else (label, Proc(("then", after, tree, bound))) for label, after in self.steps(first)]
 
-    def steps_after(self, proc):
-        return [(TAU, proc[2]) if label == TICK else (label, Proc(("after", after, proc[2]))) for label, after in self.steps(proc[1])]
-
-    def steps_interrupt(self, proc):
-        _, left, right = proc
+    def steps_interrupt(self, left, right):
         found = [(label, after if label == TICK else Proc(("interrupt", after, right))) for label, after in self.steps(left)]
         return found + [(TAU, Proc(("interrupt", left, after))) if label == TAU else (label, after) for label, after in self.steps(right)]
 
-    def steps_slide(self, proc):
-        _, left, right = proc
+    def steps_slide(self, left, right):
         return [(TAU, Proc(("slide", after, right))) if label == TAU else (label, after) for label, after in self.steps(left)] + [(TAU, right)]
 
-    def steps_throw(self, proc):
-        _, left, events, tree, bound = proc
+    def steps_rename(self, inner, pairs):
         found = []
-        for label, after in self.steps(left):
-            caught = label in events
-            found.append((label, self.process(tree, dict(bound)) if caught else after if label == TICK else Proc(("throw", after, events, tree, bound))))
+        for label, after in self.steps(inner):
+            new = in_order(new for old, new in pairs if old == label) if type(label) is Dot else []
+            found += [(own, after if label == TICK else Proc(("rename", after, pairs))) for own in new or [label]]
         return found
 
-    def steps_hide(self, proc):
-        return [(TAU if label in proc[2] else label, after if label == TICK else hidden(after, proc[2])) for label, after in self.steps(proc[1])]
-
-    def steps_rename(self, proc):
-        found = []
-        for label, after in self.steps(proc[1]):
-            new = in_order(new for old, new in proc[2] if old == label) if type(label) is Dot else []
-            found += [(own, after if label == TICK else Proc(("rename", after, proc[2]))) for own in new or [label]]
-        return found
-
-    def steps_par(self, proc):
-        _, left, events, right = proc
+    def steps_par(self, left, events, right):
         return self.together(left, right, events, None, lambda one, other: Proc(("par", one, events, other)))
 
-    def steps_apar(self, proc):
-        _, left, first, second, right = proc
+    def steps_apar(self, left, first, second, right):
         return self.together(left, right, first & second, (first, second), lambda one, other: Proc(("apar", one, first, second, other)))
 
     def together(self, left, right, shared, within, made):
@@ -306,3 +215,38 @@ def choice(form, parts):
 def hidden(proc, events):
     """A hiding within a hiding is one: so a loop through a hiding does not grow."""
     return Proc(("hide", proc[1], proc[2] | events)) if proc[0] == "hide" else Proc(("hide", proc, events))
+
+
+def parallel(own, left, shared, right, bound):
+    return Proc(("par", own.process(left, bound), shared, own.process(right, bound)))
+
+
+# The forms of processes that take one line.
+SHORT_PROCESSES = {
+    "stop": lambda own, tree, parts, bound: STOP,
+    "skip": lambda own, tree, parts, bound: SKIP,
+    "prefix": lambda own, tree, parts, bound: Proc(("prefix", tree, own.bound_of(tree, bound))),
+    "guard": lambda own, tree, parts, bound: own.process(parts[1], bound) if own.truth(parts[0], bound) else STOP,
+    "ext": lambda own, tree, parts, bound: choice("ext", own.operands(tree, bound)),
+    "int": lambda own, tree, parts, bound: choice("int", own.operands(tree, bound)),
+    "then": lambda own, tree, parts, bound: Proc(("then", own.process(parts[0], bound), parts[1], own.bound_of(parts[1], bound))),
+    "interrupt": lambda own, tree, parts, bound: Proc(("interrupt", *own.operands(tree, bound))),
+    "slide": lambda own, tree, parts, bound: Proc(("slide", *own.operands(tree, bound))),
+    "hide": lambda own, tree, parts, bound: hidden(own.process(parts[0], bound), own.events(parts[1], bound)),
+    "rename": lambda own, tree, parts, bound: Proc(("rename", own.process(parts[0], bound), own.pairs_of(tree, bound))),
+    "inter": lambda own, tree, parts, bound: parallel(own, parts[0], NONE, parts[1], bound),
+    "par": lambda own, tree, parts, bound: parallel(own, parts[0], own.events(parts[1], bound), parts[2], bound),
+    "apar": lambda own, tree, parts, bound: Proc(("apar", own.process(parts[0], bound), *(own.events(part, bound) for part in parts[1:3]), own.process(parts[3], bound))),
+}
+
+# The forms of processes whose steps take one line.
+SHORT_STEPS = {
+    "stop": lambda own: [],
+    "skip": lambda own: [(TICK, STOP)],
+    "run": lambda own, events: [(event, Proc(("run", events))) for event in in_order(events)],
+    "chaos": lambda own, events: [(TAU, STOP), *((TAU, Proc(("once", event, Proc(("chaos", events))))) for event in in_order(events))],
+    "once": lambda own, event, after: [(event, after)],
+    "int": lambda own, parts: [(TAU, part) for part in parts],
+    "after": lambda own, first, then: [(TAU, then) if label == TICK else (label, Proc(("after", after, then))) for label, after in own.steps(first)],
+    "hide": lambda own, inner, events: [(TAU if label in events else label, after if label == TICK else hidden(after, events)) for label, after in own.steps(inner)],
+}

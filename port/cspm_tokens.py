@@ -2,8 +2,8 @@
 
 A tree is a `Node`: `form` names it, `parts` are its parts. Data: num(n) name(x) call(f, args) dot(items) not(a) neg(a) len(a) op(sign, a, b) cat(a, b)
 if(c, a, b) set(items) range(m, n) comp(items, gens) prods(items, gens) seq(items) seqrange(m, n) seqcomp(items, gens) tuple(items) let(groups, body) paren(a).
-Processes: stop skip prefix(head, fields, p) guard(c, p) ext(a, b) int(a, b) then(a, b) interrupt(a, b) slide(a, b) throw(a, set, b) hide(p, set)
-rename(p, pairs, gens) par(p, set, q) apar(p, a, b, q) inter(p, q) linked(p, pairs, q) each(sign, gens, set or None, p). A pattern is a data tree."""
+Processes: stop skip prefix(head, fields, p) guard(c, p) ext(a, b) int(a, b) then(a, b) interrupt(a, b) slide(a, b) hide(p, set)
+rename(p, pairs, gens) par(p, set, q) apar(p, a, b, q) inter(p, q) each(sign, gens, set or None, p). A pattern is a data tree."""
 import collections, re
 
 TOKEN = re.compile(

@@ -291,7 +291,8 @@ class Values(Patterns):
     """Evaluates expressions."""
 
     def value(self, tree, bound):
-        return getattr(self, "of_" + tree.form)(tree, bound)
+        found = SHORT_FORMS.get(tree.form)
+        return found(self, tree, tree.parts, bound) if found else getattr(self, "of_" + tree.form)(tree, bound)
 
     def truth(self, tree, bound):
         value = self.value(tree, bound)
@@ -350,44 +351,11 @@ class Values(Patterns):
         gens = tree.parts[1] if len(tree.parts) > 1 else []
         return [self.value(item, inner) for inner in self.bindings(gens, bound) for item in tree.parts[0]]
 
-    def of_num(self, tree, bound):
-        return tree.parts[0]
-
-    def of_paren(self, tree, bound):
-        return self.value(tree.parts[0], bound)
-
-    def of_name(self, tree, bound):
-        return self.look_up(tree.parts[0], bound)
-
-    def of_call(self, tree, bound):
-        return self.apply(self.value(tree.parts[0], bound), [self.value(item, bound) for item in tree.parts[1]])
-
-    def of_let(self, tree, bound):
-        return self.value(tree.parts[1], self.opened(tree, bound))
-
-    def of_if(self, tree, bound):
-        return self.value(tree.parts[1] if self.truth(tree.parts[0], bound) else tree.parts[2], bound)
-
-    def of_dot(self, tree, bound):
-        return Dot(atom for item in tree.parts[0] for atom in atoms_of(self.value(item, bound)))
-
-    def of_not(self, tree, bound):
-        return TRUTHS[not self.truth(tree.parts[0], bound)]
-
-    def of_neg(self, tree, bound):
-        return -self.number(tree.parts[0], bound)
-
-    def of_len(self, tree, bound):
-        return len(self.sequence(tree.parts[0], bound))
-
     def sequence(self, tree, bound):
         value = self.value(tree, bound)
         if type(value) is not Seq:
             raise Refused(f"{spelled(value)} stands where a sequence is needed")
         return value
-
-    def of_cat(self, tree, bound):
-        return Seq(self.sequence(tree.parts[0], bound) + self.sequence(tree.parts[1], bound))
 
     def of_op(self, tree, bound):
         sign, one, other = tree.parts
@@ -405,30 +373,11 @@ class Values(Patterns):
             return left // right if sign == "/" else left % right
         return {"+": left + right, "-": left - right, "*": left * right}[sign]
 
-    def of_set(self, tree, bound):
-        return frozenset(self.all_items(tree, bound))
-
-    of_comp = of_set
-
-    def of_seq(self, tree, bound):
-        return Seq(self.all_items(tree, bound))
-
-    of_seqcomp = of_seq
-
     def of_range(self, tree, bound):
         low, high = (self.number(part, bound) for part in tree.parts)
         if high - low >= MOST_ELEMENTS:
             raise Refused(f"the range from {low} to {high} has more than {MOST_ELEMENTS} elements")
         return frozenset(range(low, high + 1))
-
-    def of_seqrange(self, tree, bound):
-        return Seq(in_order(self.of_range(tree, bound)))
-
-    def of_prods(self, tree, bound):
-        return frozenset(event for value in self.all_items(tree, bound) for event in self.extensions(atoms_of(value)))
-
-    def of_tuple(self, tree, bound):
-        return Tup(self.all_items(tree, bound))
 
     def built_in(self, name, given):
         """A function of CSPm, or one of FDR that leaves a process as it is."""
@@ -474,4 +423,26 @@ FUNCTIONS = {
     "seq": ((frozenset,), lambda items: Seq(in_order(items))),
     "Set": ((frozenset,), subsets),
     "concat": ((Seq,), lambda parts: Seq(item for part in parts for item in part)),
+}
+
+# The forms of data whose value takes one line.
+SHORT_FORMS = {
+    "num": lambda own, tree, parts, bound: parts[0],
+    "paren": lambda own, tree, parts, bound: own.value(parts[0], bound),
+    "name": lambda own, tree, parts, bound: own.look_up(parts[0], bound),
+    "call": lambda own, tree, parts, bound: own.apply(own.value(parts[0], bound), [own.value(item, bound) for item in parts[1]]),
+    "let": lambda own, tree, parts, bound: own.value(parts[1], own.opened(tree, bound)),
+    "if": lambda own, tree, parts, bound: own.value(parts[1] if own.truth(parts[0], bound) else parts[2], bound),
+    "dot": lambda own, tree, parts, bound: Dot(atom for item in parts[0] for atom in atoms_of(own.value(item, bound))),
+    "not": lambda own, tree, parts, bound: TRUTHS[not own.truth(parts[0], bound)],
+    "neg": lambda own, tree, parts, bound: -own.number(parts[0], bound),
+    "len": lambda own, tree, parts, bound: len(own.sequence(parts[0], bound)),
+    "cat": lambda own, tree, parts, bound: Seq(own.sequence(parts[0], bound) + own.sequence(parts[1], bound)),
+    "set": lambda own, tree, parts, bound: frozenset(own.all_items(tree, bound)),
+    "comp": lambda own, tree, parts, bound: frozenset(own.all_items(tree, bound)),
+    "seq": lambda own, tree, parts, bound: Seq(own.all_items(tree, bound)),
+    "seqcomp": lambda own, tree, parts, bound: Seq(own.all_items(tree, bound)),
+    "seqrange": lambda own, tree, parts, bound: Seq(in_order(own.of_range(tree, bound))),
+    "tuple": lambda own, tree, parts, bound: Tup(own.all_items(tree, bound)),
+    "prods": lambda own, tree, parts, bound: frozenset(event for value in own.all_items(tree, bound) for event in own.extensions(atoms_of(value))),
 }

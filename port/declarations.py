@@ -116,7 +116,7 @@ def script_text(composer):
             add_comments(body, gap)
             body += lines
     heads = [f"-- {note}." for note in composer.notes]
-    heads += [f"-- {name} was rewritten: {'; '.join(entry.reasons) or 'in other signs'}." for name, entry in kept.items() if entry.is_changed]
+    heads += [f"-- {name} was rewritten: {'; '.join(entry.reasons) or 'in other signs'}." for name, entry in ((name, kept[name]) for name in script.definitions if name in kept) if entry.is_changed]
     lines = ["-- Ported by `dlcheck --port`, which proves nothing.", *heads, *declarations.new_types(), *body, "", "-- The network, with each component's events.", *composer.lines]
     return "\n".join(lines).replace("\n\n\n", "\n\n") + "\n"
 

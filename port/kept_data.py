@@ -12,7 +12,7 @@ from networks import literal
 LOOSE, DOTTED, OR, AND, NOT, COMPARED, SUM, PRODUCT, SIGNED, ATOM = range(10)
 LEVELS = {"or": OR, "and": AND, **dict.fromkeys(("==", "!=", "<", "<=", ">", ">="), COMPARED), **dict.fromkeys("+-", SUM), **dict.fromkeys("*/%", PRODUCT)}
 LACKING = {
-    "interrupt": "an interrupt /\\", "slide": "a sliding choice [>", "throw": "an exception", "tuple": "a tuple", "linked": "a parallel",
+    "interrupt": "an interrupt /\\", "slide": "a sliding choice [>", "tuple": "a tuple",
     **dict.fromkeys(("seq", "seqrange", "seqcomp", "cat", "len"), "a sequence"), **dict.fromkeys(("par", "apar", "inter"), "a parallel"),
 }
 GREATEST_NUMBER, MOST_LISTED = 1_000_000, 8
@@ -265,7 +265,7 @@ class DataTexts:
                 continue
             item = bare(item)
             if item.form == "dot":
-                left = [(sign if sign[0] in "?$" else ".", own, None) for own in item.parts[0][1:]] + left
+                left = [(sign if sign[0] == "?" else ".", own, None) for own in item.parts[0][1:]] + left
                 item = item.parts[0][0]
             constructor = item.parts[0] if item.form == "name" else None
             if constructor not in kind.columns or constructor in context.texts or among is not None:

@@ -38,7 +38,7 @@ class Definitions(ProcessTexts):
 
     def closure(self, names):
         """These definitions and all that they use."""
-        found, todo = {}, list(names)
+        found, todo = {}, sorted(names)
         for name in todo:
             if name not in found and name in self.script.definitions:
                 found[name] = self.entry(name)

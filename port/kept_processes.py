@@ -7,7 +7,7 @@ from networks import literal
 
 # How tightly a text binds: what reaches as far right as it can, a choice or hiding, an operand of one, `;`, a prefix.
 OPEN, CHOICE, OPERAND, SEQUENCE, PREFIX = range(5)
-FORMS = {"stop", "skip", "prefix", "guard", "ext", "int", "then", "interrupt", "slide", "throw", "hide", "rename", "par", "apar", "inter", "linked", "each"}
+FORMS = {"stop", "skip", "prefix", "guard", "ext", "int", "then", "interrupt", "slide", "hide", "rename", "par", "apar", "inter", "each"}
 
 
 class ProcessTexts(DataTexts):
@@ -117,7 +117,7 @@ class ProcessTexts(DataTexts):
             raise NotKept("an input of several fields under one name")
         text, is_input = next(iter(names.values())), False
         for sign, item, among, kind in spread:
-            if sign[0] in "?$" and not self.is_constant(item):
+            if sign[0] == "?" and not self.is_constant(item):
                 field, context = self.input(sign, item, among, kind, context, body)
                 is_input = True
             else:
@@ -129,8 +129,8 @@ class ProcessTexts(DataTexts):
 
     def input(self, sign, item, among, kind, context, body):
         """An input field, and what names mean behind it."""
-        if sign[0] == "$" or item.form != "name":
-            raise NotKept("a nondeterministic field $" if sign[0] == "$" else LACKING.get(item.form, "a pattern in an input"))
+        if item.form != "name":
+            raise NotKept(LACKING.get(item.form, "a pattern in an input"))
         name = own = item.parts[0]
         if "." in sign:
             self.note("each input has its sign")

@@ -8,7 +8,7 @@ from cspm_steps import TAU, TICK
 from cspm_tokens import Node, Refused, bare
 from cspm_values import Closure, Local, in_order, spelled
 
-PARALLEL = ("par", "apar", "inter", "linked")
+PARALLEL = ("par", "apar", "inter")
 SIGNS = ("|||", "||", "[|")
 MOST_COMPONENTS = 512
 
@@ -143,8 +143,6 @@ class Network:
                 return self.walk(self.identity(tree), bound, texts)
             definition, clause, inner, arguments = self.called(tree, bound)
             return Named(definition.name, self.walk(clause.body, inner, self.own_texts(clause, inner, arguments, texts)))
-        if form == "linked":
-            raise Refused("a linked parallel [a <-> b] is not taken: give both ends one name and use [| |]")
         items = [self.walk(part, bound, texts) for part in (parts[0], parts[-1])]
         if form == "apar":
             return Group(items, sets=[processes.events(part, bound) for part in parts[1:3]])

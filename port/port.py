@@ -67,6 +67,9 @@ def main(words):
     except Refused as fault:
         told(f"not ported: {fault}")
         return REFUSED
+    except RecursionError:
+        told("not ported: the script nests too deeply")
+        return REFUSED
     try:
         sys.stdout.write(text)
         sys.stdout.flush()

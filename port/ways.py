@@ -115,9 +115,10 @@ class EventNames:
                 self.name(events, lambda event, way: channels.encode(event))
             else:
                 self.name_each_way(channel, events)
-        self.last_values = collections.defaultdict(set)
+        # of each channel of the port the fields of its events
+        self.rows = collections.defaultdict(set)
         for event in [event for channel in channels.kinds for event in map(channels.encode, channels.processes.extensions((channel,)))] + list(self.meaning):
-            self.last_values[event[0]].update(event[-1:] if len(event) > 1 else ())
+            self.rows[event[0]].add(tuple(event[1:]))
         self.alphabets = [frozenset(new for found in own.values() for new in found) for own in self.of_leaf]
 
     def name(self, events, name_of):
@@ -163,8 +164,8 @@ class EventNames:
 
     def count_of_last(self, channel):
         """How many values the last field of a channel has."""
-        base = next((own for own, (new, _) in self.split.items() if new == channel), channel)
-        return len(self.last_values[base] or self.last_values[channel])
+        base = next((own for own, (new, _) in self.split.items() if new == channel and self.rows[own] != {()}), channel)
+        return len({row[-1:] for row in self.rows[base]})
 
     def coded(self, leaf):
         """Of a component's own events, as the port has them, what they become."""
@@ -176,10 +177,14 @@ class EventNames:
         for old, new in self.coded(leaf).items():
             if old[0] == channel:
                 count = [len(own) - len(old) for own in new]
-                if any(more < 0 or own[1 + more :] != old[1:] for own, more in zip(new, count)):
+                if any(more < 0 or own[1 + more :] != old[1:] or not self.takes_all(channel, own[0]) for own, more in zip(new, count)):
                     return None
                 found.add(tuple(in_order(own[: 1 + more] for own, more in zip(new, count))))
         return next(iter(found)) if len(found) == 1 else None
+
+    def takes_all(self, channel, new):
+        """Whether all events of a channel can be renamed to another one."""
+        return self.split.get(channel, ("",))[0] == new or (self.rows[channel] <= self.rows[new] and new not in {own for own, _ in self.split.values()})
 
     def renamed(self, leaf):
         """The graph of a component with the events of the port, without those that the network blocks."""

@@ -7,6 +7,7 @@ sys.path.insert(0, str(pathlib.Path(__file__).resolve().parent.parent))
 from cspm_parser import Script
 from cspm_steps import TAU, Processes, rank
 from cspm_tokens import Refused
+from cspm_values import spelled
 from graphs import classes, endless_states, reduced
 from networks import Network
 from ways import Ways
@@ -113,3 +114,28 @@ def closed(steps, states):
 def acceptances(steps, states):
     offers = {frozenset(label for label, _ in steps[state]) for state in states if all(label != TAU for label, _ in steps[state])}
     return frozenset(offer for offer in offers if not any(other < offer for other in offers))
+
+
+def has_table(steps, report):
+    """Whether the program's table of a component is the normal form of a graph."""
+    return are_bisimilar(tabulated(report), [[(in_words(label), to) for label, to in own] for own in normal_form(steps)])
+
+
+def tabulated(report):
+    """A table as it is printed, as a graph of the kind that `normal_form` gives."""
+    made = collections.defaultdict(list)
+    offers = collections.defaultdict(set)
+    for line in report.splitlines()[2:]:
+        state, rest = line.split(" ", 1)
+        if rest.startswith("accepts "):
+            offers[int(state)].add(frozenset(event for event in rest[len("accepts {") : -1].split(", ") if event))
+        else:
+            event, to = rest.split(" -> ")
+            made[int(state)].append((event, int(to)))
+    return [[*made[state], (("tells", frozenset(offers[state]), False), state)] for state in range(len(offers))]
+
+
+def in_words(label):
+    if label[0] != "tells":
+        return spelled(label)
+    return "tells", frozenset(frozenset(map(spelled, offer)) for offer in label[1]), label[2]
