@@ -38,8 +38,8 @@ FileAnswers old new limit (Err TooLong) = (old.taken + limit < new.taken) × (ne
 FileAnswers old new limit (Err Failed) = (new.faults ≡ one_more old.faults) × (old.taken ≤ new.taken)
 FileAnswers old new limit (Err NoMemory) = (new.faults ≡ old.faults) × (old.taken ≤ new.taken)
 
--- What a load gave, by the contract of the reader that was opened under the name: all that its reads would give, where it
--- tells that (`remaining`); and the counts tell of these bytes and of no fault.
+-- What a load gave: there is a reader, and where it reports what its reads would give (`remaining`), the text is all of that. No contract of the
+-- toolchain says which file an opened reader reads, so none ties this reader to the name. The counts rise by the bytes of the text and by no fault.
 pub record GaveFile {F : Type 0} (remaining : F → Option (List ℕ)) (old new : Counts) (name text : List ℕ) : Type 0 where
   pub named : IsUtf8 name
   pub reader : F

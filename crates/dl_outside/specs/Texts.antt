@@ -11,9 +11,9 @@ has_name name held = bytes_eq held.name name
 abbrev pub text_of : List NamedText → List ℕ → Option (List ℕ)
 text_of texts name = option_map (λ held. held.text) (find (has_name name) texts)
 
--- The text of a name, as a load of it gives it: the texts are the same after the load.
+-- A load gave the text that is held under the name, and left the texts as they were.
 abbrev pub IsTextOf : List NamedText → List NamedText → List ℕ → List ℕ → Type 0
-IsTextOf texts after name text = text_of texts name ≡ Some text
+IsTextOf texts after name text = (text_of texts name ≡ Some text) × (after ≡ texts)
 
 -- The new texts hold this text under the name, and under every other name what the old ones hold.
 pub record PutsText (old new : List NamedText) (name text : List ℕ) : Type 0 where

@@ -1,5 +1,5 @@
 -- Texts that are loaded one after another, and the reply for which they call.
-use Rattle.dl_top.proofs.Prelude.{◌≡◌, ◌≤◌, ℕ, List, [], ◌∷◌, Option, None, Some, Result, Ok, Err, IfNone, IfSome, inl, inr, refl, sym, ap, subst, ◌∙◌, arith, length, IsErrAnd, same_Some, Asks, IsNoRequest, names, trial_of, Request, Trial, MOST_BYTES, Counts, HasRisen, AnswersTold, LoadAnswers, text_of, NamedText, weaker, status, Ends, IsEnd, Answer, Side, Tells, Stop, CallsFor, HoldsAll, HoldsAllNamed, IsLoad, Loaded, LoadsHeld, MayGive, Replies, TellsLoad, TextsCallFor, HoldWithin, HaveGiven, IsUnloaded, plain, reply_status, Reply, words_ask_once, LoadFault, Missing, TooLong, Failed, NoMemory, OutsideFault}
+use Rattle.dl_top.proofs.Prelude.{◌≡◌, ◌≤◌, ℕ, List, [], ◌∷◌, Option, None, Some, Result, Ok, Err, IfNone, IfSome, inl, inr, refl, sym, ap, subst, ◌∙◌, arith, length, IsErrAnd, same_Some, Asks, IsNoRequest, names, trial_of, Request, Trial, MOST_BYTES, Counts, HasRisen, AnswersTold, LoadAnswers, text_of, NamedText, weaker, status, Ends, IsEnd, Answer, Side, Tells, Stop, CallsFor, HoldsAll, HoldsAllNamed, IsLoad, Loaded, LoadsHeld, MayGive, Replies, TellsLoad, TextsCallFor, HoldWithin, Handed, HaveGiven, IsUnloaded, plain, reply_status, Reply, words_ask_once, LoadFault, Missing, TooLong, Failed, NoMemory, OutsideFault}
 use Rattle.command_words.specs.declared.request.Request.TheVariants as request
 use Rattle.report.specs.declared.answer.Answer.TheVariants as answer
 use Rattle.report.specs.declared.answer.Side.TheVariants as side
@@ -67,15 +67,21 @@ names_none r q same never none = never (sym (ap names same) ∙ none)
 
 -- ---- loads of a shelf that says what they gave
 
+-- where texts are told, what was loaded is the one under the name
+told_text : (texts : Option (List NamedText)) (before now : Counts) (name text : List ℕ) → LoadAnswers texts before now name MOST_BYTES (Ok text)
+    → IfSome texts (λ held. text_of held name ≡ Some text)
+told_text (Some held) before now name text answers = answers.0
+told_text None before now name text answers = tt
+
 module _ {S : Type 0} (texts : S → Option (List NamedText)) (counts : S → Counts) (gives : S → S → List ℕ → List ℕ → Type 0) where
   -- where the texts decide, they are those that the loads gave
   pub given : (s : Side) (old new : S) (ns : List (List ℕ)) (Then : List (List ℕ) → Answer → Type 0) (a : Answer) → Loaded (IsLoad texts counts gives) s old new ns Then a → status a ≤ 1
-      → (ts : List (List ℕ)) × HaveGiven gives old new ns ts × Then ts a
+      → (ts : List (List ℕ)) × HaveGiven (Handed texts gives) old new ns ts × Then ts a
   given s old new [] Then a (same, then) few = ([], same, then)
   given s old new (n ∷ ns) Then a (inl (f, load, tells)) few = absurd (tells_more s f a tells few)
   given s old new (n ∷ ns) Then a (inr (t, between, load, rest)) few =
       let later = given side.Specification between new ns (λ ts. Then (t ∷ ts)) a rest few in
-      (t ∷ later.0, (between, load.given, later.1), later.2)
+      (t ∷ later.0, (between, (load.given, load.texts_stay, told_text (texts old) (counts old) (counts between) n t load.answers), later.1), later.2)
 
   -- no count falls
   never_falls : (s : Side) (old new : S) (ns : List (List ℕ)) (Then : List (List ℕ) → Answer → Type 0) (a : Answer) → Loaded (IsLoad texts counts gives) s old new ns Then a

@@ -27,7 +27,7 @@ pub use Rattle.dl_outside.specs.declared.shelf.LoadFault.TheVariants.{Failed, Mi
 pub use Rattle.dl_outside.specs.declared.shelf.LoadFault.{LoadFault}
 pub use Rattle.dl_outside.specs.declared.sink.SinkFault.{SinkFault}
 pub use Rattle.dl_outside.specs.declared.texts.NamedText.{NamedText}
-pub use Rattle.dl_top.specs.Prelude.{AsksForSuch, CallsFor, EndsInShelfFault, EndsWhole, GrowsByFront, HaveGiven, HoldWithin, HoldsAll, HoldsAllNamed, IsDecided, IsFree, IsLoad, IsRun, IsStuckRun, IsUnloaded, JobPromised, Kept, Loaded, LoadsHeld, MayGive, NetworkDecides, NetworkOr, Passing, Prints, Promised, Replies, Running, SinkSigns, SpellMatching, SpellsBounded, SpellsConforming, SpellsDeadlockFree, SpellsNetwork, SpellsNoNetwork, SpellsNoScript, SpellsOnlyNetwork, SpellsOnlyScript, SpellsPassing, SpellsRun, SpellsShown, SpellsTable, SpellsTabled, SpellsTables, SpellsWithinBound, TellsLoad, TellsRank, TextCallsFor, TextIsShown, TextPasses, TextsCallFor, TextsCompare, heading_text, last_line, no_script, plain, reply_status, reply_text, rule_of, sink_signs, trial_text}
+pub use Rattle.dl_top.specs.Prelude.{AsksForSuch, CallsFor, EndsInShelfFault, EndsWhole, GrowsByFront, Handed, HaveGiven, HoldWithin, HoldsAll, HoldsAllNamed, IsDecided, IsFree, IsLoad, IsRun, IsStuckRun, IsUnloaded, JobPromised, Kept, Loaded, LoadsHeld, MayGive, NetworkDecides, NetworkOr, Passing, Prints, Promised, Replies, Running, SinkSigns, SpellMatching, SpellsBounded, SpellsConforming, SpellsDeadlockFree, SpellsNetwork, SpellsNoNetwork, SpellsNoScript, SpellsOnlyNetwork, SpellsOnlyScript, SpellsPassing, SpellsRun, SpellsShown, SpellsTable, SpellsTabled, SpellsTables, SpellsWithinBound, TellsLoad, TellsRank, TextCallsFor, TextIsShown, TextPasses, TextsCallFor, TextsCompare, heading_text, last_line, no_script, plain, reply_status, reply_text, rule_of, sink_signs, trial_text}
 pub use Rattle.dl_top.specs.declared.reply.Printed.{Printed}
 pub use Rattle.dl_top.specs.declared.reply.Reply.{Reply}
 pub use Rattle.judgement.proofs.OneNetwork.{one_network}

@@ -1,5 +1,5 @@
 -- What is printed of a reply, and how a call ends that sends it.
-use Rattle.dl_top.proofs.Prelude.{◌≡◌, ◌≢◌, ◌≤◌, ℕ, List, ◌++◌, Option, None, Some, Result, Ok, Err, IfOk, IfSome, ap, inl, inr, refl, sym, ◌∙◌, subst, arith, Asks, names, Request, Trial, Counts, HasRisen, GrowsBy, NamedText, report_text, status, Answer, CallsFor, IsLoad, LoadsHeld, MayGive, TextsCallFor, AsksForSuch, EndsInShelfFault, EndsWhole, GrowsByFront, SinkSigns, Kept, Prints, heading_text, reply_status, reply_text, Reply, Printed}
+use Rattle.dl_top.proofs.Prelude.{◌≡◌, ◌≢◌, ◌≤◌, ℕ, List, ◌++◌, Option, None, Some, Result, Ok, Err, IfOk, IfSome, ap, inl, inr, refl, sym, ◌∙◌, subst, arith, Asks, names, Request, Trial, Counts, HasRisen, GrowsBy, NamedText, report_text, status, Answer, CallsFor, IsLoad, LoadsHeld, MayGive, TextsCallFor, AsksForSuch, EndsInShelfFault, EndsWhole, GrowsByFront, SinkSigns, Handed, Kept, Prints, heading_text, reply_status, reply_text, Reply, Printed}
 use Rattle.report.specs.declared.answer.Side.TheVariants as side
 use Rattle.dl_top.proofs.Loading.{given, held_decide, only, quiet_gives, shelf_fault}
 use Rattle.dl_top.specs.Prelude.{Ends}
@@ -48,7 +48,7 @@ ends_weaker P Q weak sink result (inr (inr (inr (reply, cause, grew), five))) = 
 module _ {S : Type 0} (texts : S → Option (List NamedText)) (counts : S → Counts) (gives : S → S → List ℕ → List ℕ → Type 0) (old new : S) (words : List (List ℕ)) (sink : SinkSigns) (result : ℕ)
     (ends : Ends (MayGive (IsLoad texts counts gives) words old new) sink result) where
   pub kept : (Promise : Request → List (List ℕ) → List ℕ → Type 0) (n : ℕ) → n ≤ 1 → (r : Request) → ((ts : List (List ℕ)) (a : Answer) → TextsCallFor r ts a → status a ≡ n → Promise r ts (report_text a))
-      → Asks words r → result ≡ n → Kept Promise gives old new words sink.old sink.new
+      → Asks words r → result ≡ n → Kept Promise (Handed texts gives) old new words sink.old sink.new
   kept Promise n few r keeps asked is =
       let sent = whole (MayGive (IsLoad texts counts gives) words old new) sink result (omega (arith, few, is)) ends in
       let reply = sent.0 in
@@ -67,14 +67,14 @@ module _ {S : Type 0} (texts : S → Option (List NamedText)) (counts : S → Co
 
   of_cause : (Promise : Request → List (List ℕ) → List ℕ → Type 0) (n : ℕ) → n ≤ 1
       → ((r : Request) (ts : List (List ℕ)) (a : Answer) → TextsCallFor r ts a → status a ≡ n → Promise r ts (report_text a)) → result ≡ n
-      → (reply : Reply) → reply_status reply ≡ n → MayGive (IsLoad texts counts gives) words old new reply → Kept Promise gives old new words sink.old sink.new
+      → (reply : Reply) → reply_status reply ≡ n → MayGive (IsLoad texts counts gives) words old new reply → Kept Promise (Handed texts gives) old new words sink.old sink.new
   of_cause Promise n few keeps is reply ended (inl (none, usage)) = let three : 3 ≡ n = sym (ap reply_status usage) ∙ ended in absurd (omega (arith, few, three))
   of_cause Promise n few keeps is reply ended (inr (r, asks, replies)) = kept Promise n few r (keeps r) asks is
 
   -- the same, whatever is asked for: the words ask for something
   pub kept_all : (Promise : Request → List (List ℕ) → List ℕ → Type 0) (n : ℕ) → n ≤ 1
       → ((r : Request) (ts : List (List ℕ)) (a : Answer) → TextsCallFor r ts a → status a ≡ n → Promise r ts (report_text a)) → result ≡ n
-      → Kept Promise gives old new words sink.old sink.new
+      → Kept Promise (Handed texts gives) old new words sink.old sink.new
   kept_all Promise n few keeps is =
       let sent = whole (MayGive (IsLoad texts counts gives) words old new) sink result (omega (arith, few, is)) ends in
       of_cause Promise n few keeps is sent.0 (sym sent.3 ∙ is) sent.1

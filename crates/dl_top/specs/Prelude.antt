@@ -3,7 +3,7 @@ pub use Rattle.dl_top.specs.Cause.{CallsFor, HoldsAll, HoldsAllNamed, IsLoad, Lo
 pub use Rattle.dl_top.specs.Complete.{AsksForSuch, HoldWithin, Passing, Running, SpellMatching, SpellsPassing, SpellsTabled, SpellsTables, SpellsWithinBound, TextPasses}
 pub use Rattle.dl_top.specs.Ending.{Ends, EndsInShelfFault, EndsWhole, GrowsByFront, SinkSigns, sink_signs}
 pub use Rattle.dl_top.specs.Judgement.{IsDecided, NetworkDecides, NetworkOr, SpellsNetwork, SpellsNoNetwork, SpellsNoScript, SpellsOnlyNetwork, SpellsOnlyScript, TextCallsFor, TextIsShown, TextsCompare}
-pub use Rattle.dl_top.specs.Kept.{HaveGiven, Kept}
+pub use Rattle.dl_top.specs.Kept.{AreHeld, Handed, HandedTextsAreHeld, HaveGiven, Kept}
 pub use Rattle.dl_top.specs.Printing.{IsUnloaded, Prints, no_script}
 pub use Rattle.dl_top.specs.Promised.{IsStuckRun, JobPromised, Promised, SpellsBounded, SpellsConforming, SpellsShown, SpellsTable, TellsRank}
 pub use Rattle.dl_top.specs.Proved.{IsFree, SpellsDeadlockFree}

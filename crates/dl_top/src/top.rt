@@ -3,7 +3,7 @@
 ghost use Rattle.std.specs.Prelude.{◌≡◌, ◌≢◌, ◌≤◌, IfSome};
 ghost use Rattle.dl_outside.specs.Count.{HasRisen, NeverFall};
 ghost use Rattle.command_words.specs.Request.{AsksForCheck, AsksForRun, AsksForTrial, NamesNoScript};
-ghost use Rattle.dl_top.specs.Prelude.{CallsFor, IsLoad, MayGive, AsksForSuch, Passing, Running, Ends, EndsInShelfFault, EndsWhole, sink_signs, Kept, IsStuckRun, Promised, IsFree};
+ghost use Rattle.dl_top.specs.Prelude.{CallsFor, IsLoad, MayGive, AsksForSuch, Passing, Running, Ends, EndsInShelfFault, EndsWhole, sink_signs, Handed, Kept, IsStuckRun, Promised, IsFree};
 
 use crate::load::print_reply;
 use crate::send::send;
@@ -41,20 +41,20 @@ fn report_to<S: Shelf, O: Sink>(alloc: Global, words: &Words, shelf: &mut S, out
 pub fn dl_main<S: Shelf, O: Sink>(alloc: Global, words: &Words, shelf: &mut S, out: &mut O) -> u8
     // The theorem: where a script is judged with status 0, the text that the shelf handed over spells exactly one network, which is free of deadlock.
     ensures proved { AsksForCheck words.now → result ≡ 0
-        → Kept IsFree S.gives shelf.old shelf.new words.now (O.sent out.old) (O.sent out.new) }
+        → Kept IsFree (Handed S.texts S.gives) shelf.old shelf.new words.now (O.sent out.old) (O.sent out.new) }
 
     // The same of the script of a family, where a trial ends with status 0.
     ensures tried { AsksForTrial words.now → result ≡ 0
-        → Kept IsFree S.gives shelf.old shelf.new words.now (O.sent out.old) (O.sent out.new) }
+        → Kept IsFree (Handed S.texts S.gives) shelf.old shelf.new words.now (O.sent out.old) (O.sent out.new) }
 
     // Each command: status 0 promises of the texts that were handed over, and of the report, what stands for the command in the table `Promised`. Of a judgement
     // it says that the network meets the rule, and that the greatest rank in the report is its own by the rule.
     ensures promised { result ≡ 0
-        → Kept Promised S.gives shelf.old shelf.new words.now (O.sent out.old) (O.sent out.new) }
+        → Kept Promised (Handed S.texts S.gives) shelf.old shelf.new words.now (O.sent out.old) (O.sent out.new) }
 
     // A run ends with status 1 exactly where it is stuck: the state after the printed steps has no step, and the network is live for no bound.
     ensures stuck { AsksForRun words.now → result ≡ 1
-        → Kept IsStuckRun S.gives shelf.old shelf.new words.now (O.sent out.old) (O.sent out.new) }
+        → Kept IsStuckRun (Handed S.texts S.gives) shelf.old shelf.new words.now (O.sent out.old) (O.sent out.new) }
 
     // Completeness: status 0 comes wherever the texts are such that it may, within the limits, without a fault and with memory enough; a run ends with 0 or 1.
     ensures complete { result ≢ 5 → ¬ HasRisen (S.counts shelf.old).faults (S.counts shelf.new).faults

@@ -1,5 +1,6 @@
 mod Broken
 mod Counting
+mod Heart
 pub mod KindsUnique
 mod Living
 pub mod Notes

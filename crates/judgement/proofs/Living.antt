@@ -1,10 +1,15 @@
--- Where the shape of a network meets the rule, the network is free of deadlock: the theorem about ranks, at the steps of the network's program.
-use Rattle.judgement.proofs.Prelude.{ℕ, Ranking, Shape, networks_meet, Ranks, NotedRule, shapes_are_well_formed, HasSilentBound, IsLive, IsSpelled, Network, IsApart, StaysBusy, ProcessStep, Meets, met_rules_mean_live, shapes_behave, IsSound, network_is_tree}
+-- The ranking that a rule gives is good: it has the numbers that the tables ask for, and falls.
+use Rattle.judgement.proofs.Prelude.{Ranking, Shape, IsWellFormed, TripleDisjoint, alphabets_of, Fits, Falls, NotedRule, Ranks, cyclic_ranks_fall, client_server_ranks_fall, resource_ranks_fall}
+use Rattle.design_rules.specs.Rules.{Meets}
+use Rattle.design_rules.specs.declared.noted_rule.NotedRule.TheVariants.{ClientServer, Cyclic, Resource}
 
-pub live : (network : Network) (shape : Shape) (bound : ℕ) → IsSpelled network → IsApart network shape → StaysBusy network → HasSilentBound network bound
-    → (rule : NotedRule) (ranking : Ranking) → Meets network rule → Ranks rule shape ranking → IsLive network bound
-live network shape bound spelled apart busy exact rule ranking meets ranks =
-    let made = network_is_tree network.program network.tree spelled in
-    let sound : IsSound (ProcessStep network.program) network.tree bound = record { some = made.1; nested = made.0.nesting; triple = apart.apart; silence = exact } in
-    met_rules_mean_live (ProcessStep network.program) network.tree bound shape rule ranking sound (shapes_are_well_formed (ProcessStep network.program) network.tree shape apart.is)
-    (shapes_behave (ProcessStep network.program) network.tree shape apart.is busy) ((networks_meet (ProcessStep network.program) network.tree shape apart.is rule).1 meets) ranks
+pub ranks_fit : (shape : Shape) (rule : NotedRule) (ranking : Ranking) → Ranks rule shape ranking → Fits shape.parts ranking
+ranks_fit shape Cyclic ranking ranks = ranks.ranks.fits
+ranks_fit shape (ClientServer roles) ranking ranks = ranks.fits
+ranks_fit shape (Resource uses) ranking ranks = ranks.ranks.fits
+
+pub ranks_fall : (shape : Shape) (rule : NotedRule) (ranking : Ranking) → IsWellFormed shape → TripleDisjoint (alphabets_of shape.parts) → Meets rule shape → Ranks rule shape ranking
+    → Falls shape.parts ranking
+ranks_fall shape Cyclic ranking form apart meets ranks = cyclic_ranks_fall shape ranking form meets ranks
+ranks_fall shape (ClientServer roles) ranking form apart meets ranks = client_server_ranks_fall shape roles ranking form meets ranks
+ranks_fall shape (Resource uses) ranking form apart meets ranks = resource_ranks_fall shape uses ranking form apart meets ranks

@@ -6,32 +6,39 @@ pub use Rattle.csp_program.specs.Prelude.{Outcome, and_then}
 pub use Rattle.csp_program.specs.declared.programs.Content.{Content}
 pub use Rattle.csp_program.specs.declared.kinds.ValueKind.{ValueKind}
 pub use Rattle.csp_program.specs.declared.processes.Proc.{Proc}
-pub use Rattle.csp_tables.specs.Prelude.{ArePartsOf, Component, IsShapeOf, IsWellFormed, Part, PartRanks, Ranking, Shape, Tree, TripleDisjoint, alphabets_of, leaves, part_at}
+pub use Rattle.csp_tables.specs.Prelude.{ArePartsOf, Component, Falls, Fits, IsGoodRanking, IsGreatestSilence, IsShapeOf, IsSilentBound, IsWellFormed, Label, Part, PartRanks, Ranking, Shape, Tree, TripleDisjoint, alphabets_of, leaves, part_at}
 pub use Rattle.csp_tables.specs.declared.rule.Rule.TheVariants.{ClientServer, Cyclic, Resource}
 pub use Rattle.csp_tables.specs.declared.rule.Rule.{Rule}
 pub use Rattle.csp_text.specs.declared.script.Decl.{Decl}
 pub use Rattle.csp_text.specs.declared.script.Script.{Script}
 pub use Rattle.design_rules.proofs.GreatestRanks.{rankings_have_greatest_rank}
-pub use Rattle.design_rules.proofs.Live.{met_rules_mean_live}
+pub use Rattle.design_rules.proofs.ClientServer.{client_server_ranks_fall}
+pub use Rattle.design_rules.proofs.CyclicRule.{cyclic_ranks_fall}
 pub use Rattle.design_rules.proofs.Readings.{networks_break, networks_meet}
+pub use Rattle.design_rules.proofs.Resource.{resource_ranks_fall}
 pub use Rattle.design_rules.specs.Prelude.{HasNotes, Ranks}
 pub use Rattle.design_rules.specs.declared.rule_fault.RuleFault.{RuleFault}
 pub use Rattle.design_rules.specs.RankCounts.{greatest_from, greatest_rank}
 pub use Rattle.design_rules.specs.declared.noted_rule.NotedRule.{NotedRule}
 pub use Rattle.dl_limits.specs.declared.TheConstants.{MOST_COMPONENTS, MOST_SETS}
 pub use Rattle.judgement.specs.Counts.{node_count}
+pub use Rattle.judgement.specs.Heart.{IsProved, bound_of}
 unfoldable pub use Rattle.judgement.specs.Judged.{IsJudged, RuleDecides}
 pub use Rattle.judgement.specs.Laws.{EachScriptHasOneNetwork}
 pub use Rattle.judgement.specs.Noted.{Breaks, HasUntold, Meets, Notes}
 pub use Rattle.net_sound.proofs.FormOfTables.{shapes_are_well_formed}
 pub use Rattle.net_sound.proofs.Parts.{one_part_each}
 pub use Rattle.net_sound.proofs.ShapeOf.{shapes_behave}
+pub use Rattle.net_sound.proofs.Soundness.{good_rankings_mean_live}
 pub use Rattle.net_sound.specs.Soundness.{IsSound}
 pub use Rattle.network_layout.specs.Told.{IsUntold}
 pub use Rattle.network_layout.specs.declared.told.NotedFault.{NotedFault}
+pub use Rattle.network_stages.proofs.HeightSums.{bound_is}
 pub use Rattle.network_stages.proofs.Shaping.{parts_apart}
 pub use Rattle.network_stages.specs.Networks.{Network}
-pub use Rattle.network_stages.specs.Prelude.{HasSilentBound, IsApart, IsLive, IsSpelled, StaysBusy}
+pub use Rattle.network_stages.specs.Prelude.{AreSeatsOf, HasSilentBound, HasTables, IsApart, IsLive, IsSpelled, StaysBusy, network_at, tree_in}
+unfoldable pub use Rattle.network_stages.specs.Prelude.{tree_at}
+pub use Rattle.network_stages.specs.declared.component_tables.ComponentTable.{ComponentTable}
 pub use Rattle.network_trees.proofs.InOrder.{network_is_tree}
 pub use Rattle.network_trees.specs.NetworkOf.{Walked, network_of}
 pub use Rattle.process_steps.specs.ComponentStep.{ProcessStep}

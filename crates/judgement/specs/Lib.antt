@@ -1,4 +1,5 @@
 pub mod Counts
+pub mod Heart
 pub mod Judged
 pub mod Laws
 pub mod Noted

@@ -1,26 +1,31 @@
-//! That a network is free of deadlock, as it is told.
+//! That a network is free of deadlock, as it is reported.
 
-ghost use Rattle.std.specs.Prelude.{◌≡◌, pos, length};
-ghost use Rattle.csp_tables.specs.Network.{leaves};
+ghost use Rattle.std.specs.Prelude.{◌≡◌, pos};
 ghost use Rattle.design_rules.specs.RankCounts.{greatest_rank};
 ghost use Rattle.judgement.specs.Counts.{node_count};
 ghost use Rattle.report.specs.declared.answer.Done.TheVariants as done;
 
+use crate::conclusion::Proved;
 use crate::counts::{count_nodes, greatest};
 use csp_tables::{Ranking, Rule};
 use network_stages::Shaped;
 use report::Done;
 
-// That the network with this shape and this silent bound is free of deadlock, by a rule with its ranking.
-pub(crate) fn deadlock_free(rule: Rule, bound: u32, shaped: &Shaped<'_>, ranking: &Ranking) -> Done
-    ensures { result ≡ done.DeadlockFree rule (length (leaves shaped.now.network.tree))
-        (node_count shaped.now.shape.parts) bound (pos (greatest_rank ranking.now)) }
+// That a network which is proved is free of deadlock, with its shape, by a rule with its ranking.
+pub(crate) fn deadlock_free(
+    rule: Rule,
+    proved: &Proved,
+    shaped: &Shaped<'_>,
+    ranking: &Ranking,
+) -> Done
+    ensures { result ≡ done.DeadlockFree rule proved.now.components (node_count shaped.now.shape.parts)
+        proved.now.bound (pos (greatest_rank ranking.now)) }
 {
     Done::DeadlockFree {
         rule,
-        components: shaped.network().seats().len() as u32,
+        components: proved.components(),
         nodes: count_nodes(shaped.shape().parts()),
-        bound,
+        bound: proved.bound(),
         greatest_rank: greatest(ranking),
     }
 }

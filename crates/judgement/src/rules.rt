@@ -1,6 +1,7 @@
 //! The rules, with what a script notes of each component.
 
 ghost use Rattle.std.specs.Prelude.{◌≡◌, IfErr, IfOk, OnOk};
+ghost use Rattle.csp_tables.specs.Prelude.{Falls, Fits};
 ghost use Rattle.design_rules.specs.Rules.{HasNotes, Ranks};
 ghost use Rattle.csp_base.specs.Stops.{Tells};
 ghost use Rattle.judgement.specs.Noted.{Breaks, HasUntold, Meets, Notes, noted_refusal};
@@ -57,6 +58,8 @@ pub(crate) fn ranking_by(
     requires { HasNotes rule.now shaped.now.shape }
     ensures met { OnOk result (Meets shaped.now.network rule.now) }
     ensures ranks { IfOk result (Ranks rule.now shaped.now.shape) }
+    ensures fits { IfOk result (Fits shaped.now.shape.parts) }
+    ensures falls { IfOk result (Falls shaped.now.shape.parts) }
     ensures told { IfErr result (Tells (Breaks shaped.now.network rule.now)) }
 {
     let shape = shaped.shape();

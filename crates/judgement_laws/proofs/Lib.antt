@@ -1,6 +1,6 @@
 mod Classes
 pub mod Complete
-mod Heart
+mod Flat
 pub mod Networks
 pub mod Prelude
 pub mod Tables

@@ -2,7 +2,7 @@
 pub use Rattle.csp_base.proofs.Standard.{cases_lt, length-take, same_Some, slice_get_within}
 pub use Rattle.csp_program.specs.declared.programs.Content.{Content}
 pub use Rattle.csp_program.specs.declared.processes.Proc.{Proc}
-pub use Rattle.csp_tables.specs.Prelude.{ArePartsOf, Component, ComponentStep, HasForm, HaveForm, IsGoodRanking, IsPartOf, IsReached, IsRun, IsShapeOf, Label, Node, Part, Reached, Shape, Tree, TripleDisjoint, end_of, leaves, sharers, standing_at}
+pub use Rattle.csp_tables.specs.Prelude.{ArePartsOf, Component, ComponentStep, HasForm, HaveForm, IsPartOf, IsReached, IsRun, IsShapeOf, Label, Node, Part, Reached, Shape, Tree, TripleDisjoint, end_of, leaves, sharers, standing_at}
 pub use Rattle.csp_tables.specs.declared.rule.Rule.{Rule}
 pub use Rattle.design_rules.proofs.Readings.{network_faults_refute}
 pub use Rattle.design_rules.proofs.Runs.{end_within}
@@ -17,7 +17,7 @@ unfoldable pub use Rattle.judgement.specs.Judged.{IsJudged, RuleDecides}
 pub use Rattle.judgement.specs.Noted.{Breaks, Meets, Notes, notes_of}
 pub use Rattle.judgement_laws.specs.Classes.{HasClasses, HaveClasses}
 pub use Rattle.judgement_laws.specs.Complete.{EachScriptHasOneStatus, JudgementIsExact, Passes}
-pub use Rattle.judgement_laws.specs.Heart.{GoodRankingsMeanLive, IsFlat, bound_of}
+pub use Rattle.judgement_laws.specs.Flat.{NetworksAreFlat}
 pub use Rattle.judgement_laws.specs.Lasting.{AllGoOn, GoesOn}
 pub use Rattle.judgement_laws.specs.Laws.{FaultsExcludeNetworks}
 pub use Rattle.judgement_laws.specs.Ranked.{HasGreatestRank}
@@ -28,14 +28,11 @@ pub use Rattle.net_sound.proofs.Flattening.{flat_steps_are_tree_steps, tree_step
 pub use Rattle.net_sound.proofs.FormOfTables.{shapes_are_well_formed}
 pub use Rattle.net_sound.proofs.Local.{run_kept}
 pub use Rattle.net_sound.proofs.Numbered.{stands}
-pub use Rattle.net_sound.proofs.ShapeOf.{shapes_behave}
-pub use Rattle.net_sound.proofs.Soundness.{good_rankings_mean_live, path_alphabet}
-pub use Rattle.net_sound.specs.Soundness.{IsSound}
+pub use Rattle.net_sound.proofs.Soundness.{path_alphabet}
 pub use Rattle.network_layout.proofs.Triples.{length-holders}
 pub use Rattle.network_layout.specs.Triple.{alphabets, holders}
 pub use Rattle.network_stages.proofs.Excluded.{faults_exclude_tables}
-pub use Rattle.network_stages.proofs.HeightSums.{bound_is}
-pub use Rattle.network_stages.specs.Prelude.{AreTablesOf, AreTablesWithin, CanStop, HasNoParts, HasSilentBound, HasTable, HasTables, HaveFewSets, IsApart, IsSpelled, IsTableWithin, Network, ShareEvent, StaysBusy, room_after, whole_room}
+pub use Rattle.network_stages.specs.Prelude.{AreTablesOf, AreTablesWithin, CanStop, HasNoParts, HasTable, HasTables, HaveFewSets, IsApart, IsTableWithin, Network, ShareEvent, StaysBusy, room_after, whole_room}
 pub use Rattle.network_stages.specs.declared.component_tables.ComponentTable.{ComponentTable}
 pub use Rattle.network_trees.proofs.InOrder.{network_is_tree}
 pub use Rattle.network_trees.specs.NetworkOf.{network_of}

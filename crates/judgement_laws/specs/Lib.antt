@@ -1,6 +1,6 @@
 pub mod Classes
 pub mod Complete
-pub mod Heart
+pub mod Flat
 pub mod Lasting
 pub mod Laws
 pub mod Ranked

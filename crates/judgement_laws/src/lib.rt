@@ -1,13 +1,13 @@
-//! Laws of networks of programs and of the answers about them: what a script decides, it decides alone; and why "deadlock-free" is true of programs.
+//! Laws of networks of programs and of the answers about them: what a script decides, it decides alone.
 #![tactic(auto)]
 
 ghost use Rattle.judgement_laws.specs.Complete.{EachScriptHasOneStatus, JudgementIsExact};
-ghost use Rattle.judgement_laws.specs.Heart.{GoodRankingsMeanLive};
+ghost use Rattle.judgement_laws.specs.Flat.{NetworksAreFlat};
 ghost use Rattle.judgement_laws.specs.Laws.{FaultsExcludeNetworks};
 
-/// A network of a program over whose tables a ranking falls is live, with its silent bound, and its steps are those of its components.
-pub fn good_rankings_mean_live()
-    ensures { GoodRankingsMeanLive }
+/// The steps of the network of a program are those of its components side by side, however the network is nested.
+pub fn networks_are_flat()
+    ensures { NetworksAreFlat }
 {}
 
 /// No script that has a network has what a refusal tells of it.

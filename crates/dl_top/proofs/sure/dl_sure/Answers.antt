@@ -1,4 +1,5 @@
-use Rattle.dl_top.proofs.Prelude.{◌≡◌, ◌≢◌, ℕ, refl, sym, ◌∙◌, arith, HasRisen}
+use Rattle.dl_top.proofs.Prelude.{◌≡◌, ◌≢◌, ℕ, refl, sym, ◌∙◌, arith, HasRisen, IsFree, IsStuckRun, Promised}
+use Rattle.dl_top.proofs.Held.{kept_by_text}
 use Rattle.dl_top.proofs.Loading.{held_not_four, quiet_gives}
 use Rattle.dl_top.proofs.Printing.{ends_weaker}
 use Rattle.dl_top.proofs.sure.dl_sure.Goals as goal
@@ -9,6 +10,18 @@ quiet risen = absurd (omega arith)
 
 not_five : (n : ℕ) → n ≡ 4 → n ≢ 5
 not_five n four five = absurd (omega arith)
+
+pub returns-clause-proved : goal.returns-clause-proved
+returns-clause-proved c asks zero = kept_by_text IsFree _ _ _ _ _ (c.dl_main.ensures.proved asks zero)
+
+pub returns-clause-tried : goal.returns-clause-tried
+returns-clause-tried c asks zero = kept_by_text IsFree _ _ _ _ _ (c.dl_main.ensures.tried asks zero)
+
+pub returns-clause-promised : goal.returns-clause-promised
+returns-clause-promised c zero = kept_by_text Promised _ _ _ _ _ (c.dl_main.ensures.promised zero)
+
+pub returns-clause-stuck : goal.returns-clause-stuck
+returns-clause-stuck c asks one = kept_by_text IsStuckRun _ _ _ _ _ (c.dl_main.ensures.stuck asks one)
 
 pub returns-clause-ends : goal.returns-clause-ends
 returns-clause-ends c =

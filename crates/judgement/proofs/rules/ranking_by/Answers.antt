@@ -1,5 +1,6 @@
-use Rattle.judgement.proofs.Prelude.{subst, sym, leaves, TripleDisjoint, alphabets_of, IsWellFormed, Shape, networks_meet, HasNotes, Ranks, shapes_are_well_formed, IsApart, ProcessStep, parts_apart}
+use Rattle.judgement.proofs.Prelude.{subst, sym, leaves, Fits, Falls, TripleDisjoint, alphabets_of, IsWellFormed, Shape, networks_meet, HasNotes, Ranks, shapes_are_well_formed, IsApart, ProcessStep, parts_apart}
 use Rattle.judgement.proofs.Broken.{network_broken}
+use Rattle.judgement.proofs.Living.{ranks_fall, ranks_fit}
 use Rattle.judgement.proofs.rules.ranking_by.Goals as goal
 
 pub decide-requires : goal.decide-requires
@@ -22,6 +23,16 @@ returns-in-Ok-clause-met c =
 
 pub returns-in-Ok-clause-ranks : goal.returns-in-Ok-clause-ranks
 returns-in-Ok-clause-ranks c = subst (λ (shape : Shape). Ranks c.args.rule.now shape c.in-Ok.ranking) c.shape-shape.ensures.shape c.in-Ok.ensures.ranking
+
+pub returns-in-Ok-clause-fits : goal.returns-in-Ok-clause-fits
+returns-in-Ok-clause-fits c =
+    subst (λ (shape : Shape). Fits shape.parts c.in-Ok.ranking) c.shape-shape.ensures.shape (ranks_fit c.shape-shape.result.now c.args.rule.now c.in-Ok.ranking c.in-Ok.ensures.ranking)
+
+pub returns-in-Ok-clause-falls : goal.returns-in-Ok-clause-falls
+returns-in-Ok-clause-falls c =
+    let asked = decide-requires c in
+    subst (λ (shape : Shape). Falls shape.parts c.in-Ok.ranking) c.shape-shape.ensures.shape
+    (ranks_fall c.shape-shape.result.now c.args.rule.now c.in-Ok.ranking asked.form asked.apart c.in-Ok.ensures.met c.in-Ok.ensures.ranking)
 
 pub returns-in-Err-Told-clause-told : goal.returns-in-Err-Told-clause-told
 returns-in-Err-Told-clause-told c =
