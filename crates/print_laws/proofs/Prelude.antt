@@ -10,7 +10,7 @@ pub use Rattle.csp_grammar.specs.Declarations.{AssertedText, DeclarationText, De
 pub use Rattle.csp_grammar.specs.Grammar.{event_tree, part_tree}
 pub use Rattle.csp_grammar.specs.Prelude.{AtomText, Choice, ChoiceText, ConditionsText, DotsText, DottedText, ExpressionText, FieldsText, GenText, GensText, HidingText, IsComparison, IsLeftOperator, ItemText, ItemsText, Level, OpenText, PairsText, PartText, PartsText, PrefixText, Reach, SequenceText, SideText, TreeText, choice_of, choice_sign, closed, comparison, conjunction, conjunction-negation, disjunction, disjunction-conjunction, minus, negation, product, product-minus, renaming, sum, sum-product}
 pub use Rattle.csp_lexer.proofs.SymbolsLemmas.{symbol_has_byte}
-pub use Rattle.csp_lexer.specs.Prelude.{Piece, PlacedTokens, added, after_comments, asserted, assertion_or_token, before, beginning, behind_all, continued, cut_line, ends_line, is_blank, is_digit, is_letter, is_name_byte, is_prime, is_space, lexed, line_comment, nothing, nothing_before, one, one_at, one_before, symbol_with_len, then_cut, tokens_of, with_len, word_or_name, word_token}
+pub use Rattle.csp_lexer.specs.Prelude.{Piece, PlacedTokens, added, after_comments, asserted, assertion_or_token, before, beginning, behind_all, continued, cut_line, ends_line, is_blank, is_digit, is_letter, is_name_byte, is_prime, is_single, is_space, lexed, line_comment, nothing, nothing_before, one, one_at, one_before, symbol_with_len, then_cut, tokens_of, with_len, word_or_name, word_token}
 unfoldable pub use Rattle.csp_lexer.specs.Prelude.{after_arguments, after_call, after_closing, assertion, begins_assertion, cut, digits_len, front, is_closed, is_deadlock_assertion, is_deadlock_free, is_foreign, is_name, line_front, line_len, line_piece, longest_symbol, marked_piece, number_token, reserved_word, resource, rest_len, roles, symbol_at, token_at, word_len, word_rest_len, words_of}
 pub use Rattle.csp_text.specs.Prelude.{field_depth, gen_depth, part_depth, set_op_word, symbol_text, symbols, tree_depth, word_text, words}
 pub use Rattle.csp_text.specs.declared.token.Word.TheVariants.{Assert, Channel}
@@ -32,7 +32,7 @@ pub use Rattle.csp_text.specs.declared.tree.PartTree.{PartTree}
 pub use Rattle.csp_text.specs.declared.tree.Tree.{Tree}
 pub use Rattle.dl_limits.proofs.Printing.{trees_fit}
 pub use Rattle.dl_limits.specs.declared.TheConstants.{MOST_BRACKETS, MOST_TREE_DEPTH}
-pub use Rattle.print_laws.specs.Fits.{AreResource, AreRoles, Every, Fits, FitsLine, IsName, is_common, is_single}
+pub use Rattle.print_laws.specs.Fits.{AreResource, AreRoles, Every, Fits, FitsLine, IsName, is_common}
 pub use Rattle.print_laws.specs.Laws.{FoundTokensAreWellFormed, PrintedTextSpellsNoOther, PrintedTextSpellsTheScript, PrintedTokensAreAText, script_tokens}
 unfoldable pub use Rattle.print_laws.specs.Lines.{Lines}
 pub use Rattle.print_laws.specs.Lines.{behind, is_assert}
