@@ -1,6 +1,6 @@
 -- What the proofs of this crate cite of the crates below, and of its own definitions.
 pub use Rattle.csp_base.proofs.Booleans.{and_first, and_second}
-pub use Rattle.csp_base.proofs.Standard.{and_from, and_left, and_parts, bytes_eq-Decides, cond-false, cond-true, decimal_is_IsNumeral, digit_from_value, digit_value_digit, drop-append-le, drop-append_seam, eqb-true, false≢true, length-drop, length-take-le, list_all-append, not-true, prefix_len-le-length, take-append_seam}
+pub use Rattle.csp_base.proofs.Standard.{and_from, and_left, and_parts, bytes_eq-Decides, cond-false, cond-true, decimal_is_IsNumeral, digit_from_value, digit_value_digit, drop-append-le, drop-append_seam, eqb-true, false≢true, length-take-le, list_all-append, not-true, prefix_len-le-length, take-append_seam}
 pub use Rattle.csp_base.specs.Lists.{greatest}
 pub use Rattle.csp_base.specs.Standard.{AllDigits, bytes_eq, digit_value, digits_value_after, option_map_or, prefix_len, starts_with}
 pub use Rattle.csp_base.specs.declared.operators.BinOp.{BinOp}
@@ -50,7 +50,7 @@ pub use Rattle.std.proofs.Common.{Bool, List, [], ap, append-nil, append_assoc, 
 pub use Rattle.std.proofs.lemmas.List.Folds.{flat_map-map}
 pub use Rattle.std.proofs.lemmas.List.{map-append}
 pub use Rattle.std.specs.List.{filter, list_all, onto_first, slice_split}
-pub use Rattle.std.specs.Prelude.{Err, None, Ok, Option, Result, Some, cond, decimal, find, flat_map, if◌then◌else◌, is_none, nat_eq, nat_le, nat_lt, not, slice_index}
+pub use Rattle.std.specs.Prelude.{Err, None, Ok, Option, Result, Some, cond, decimal, flat_map, if◌then◌else◌, is_none, nat_eq, nat_le, nat_lt, not, slice_index}
 pub use Rattle.tree_reading.proofs.Levels.{pairs_depth}
 pub use Rattle.tree_reading.proofs.Meaning.{at_level, from_level}
 pub use Rattle.tree_reading.proofs.Unique.{one_script}
