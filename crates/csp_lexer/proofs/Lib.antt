@@ -1,6 +1,11 @@
 pub mod CommentsLemmas
+pub mod CutLemmas
 pub mod CutSoFar
+pub mod Cuts
 pub mod FormsLemmas
+pub mod FrontsLemmas
+pub mod LexemeLemmas
+pub mod NoteLemmas
 pub mod NumbersLemmas
 pub mod PieceLemmas
 pub mod PlacedLemmas

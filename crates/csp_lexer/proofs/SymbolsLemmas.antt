@@ -87,10 +87,10 @@ front_passes : (part rest : List ℕ) → starts_with nat_eq (part ++ rest) part
 front_passes [] rest = refl
 front_passes (b ∷ part) rest = ap (λ t. t && starts_with nat_eq (part ++ rest) part) (same_byte b) ∙ front_passes part rest
 
-front_tested : (text part : List ℕ) → IsFront part text → starts_with nat_eq text part ≡ true
+pub front_tested : (text part : List ℕ) → IsFront part text → starts_with nat_eq text part ≡ true
 front_tested text part front = subst (λ t. starts_with nat_eq t part ≡ true) (sym front.1) (front_passes part front.0)
 
-passed_front : (text part : List ℕ) → starts_with nat_eq text part ≡ true → IsFront part text
+pub passed_front : (text part : List ℕ) → starts_with nat_eq text part ≡ true → IsFront part text
 passed_front text [] passes = (text, refl)
 passed_front [] (p ∷ part) passes = absurd (false≢true passes)
 passed_front (t ∷ text) (p ∷ part) passes =

@@ -1,48 +1,27 @@
 -- Annotations: line comments that begin with `--@` and whose first word is `roles` or `resource`.
-use Rattle.std.specs.Prelude.{ℕ, Bool, ◌||◌, nat_eq, nat_lt, if◌then◌else◌, List, [], ◌∷◌, length, take, drop, codes, Option, Some, None}
-use Rattle.csp_base.specs.Standard.{filter, list_all, slice_split, starts_with, bytes_eq}
-use Rattle.csp_base.specs.declared.place.Place.{Place}
+use Rattle.std.specs.Prelude.{ℕ, Bool, true, not, ◌||◌, nat_eq, nat_lt, if◌then◌else◌, List, [], ◌∷◌, length, drop, codes}
+use Rattle.csp_base.specs.Standard.{filter, slice_split, starts_with, bytes_eq}
+use Rattle.csp_text.specs.declared.token.ResourceNames.{ResourceNames}
+use Rattle.csp_text.specs.declared.token.RolesNames.{RolesNames}
 use Rattle.csp_text.specs.declared.token.Token.{Token}
 use Rattle.csp_text.specs.declared.token.Token.TheVariants as token
-use Rattle.csp_lexer.specs.Comments.{line_len}
-use Rattle.csp_lexer.specs.Pieces.{Piece, nothing, one_before}
-use Rattle.csp_lexer.specs.Words.{is_name}
+use Rattle.csp_lexer.specs.Words.{IsName}
 
 -- what divides the words of an annotation: a space, a tab or a carriage return
 abbrev pub is_space : ℕ → Bool
 is_space b = nat_eq b 32 || nat_eq b 9 || nat_eq b 13
 
--- the words of a line, which are its parts between spaces that are not empty
-unfoldable pub words_of : List ℕ → List (List ℕ)
-words_of line = filter (λ word. nat_lt 0 (length word)) (slice_split is_space line)
+-- the words of a line that begins with `@`, which are its parts between spaces that are not empty; any other line has none
+abbrev pub annotation_words : List ℕ → List (List ℕ)
+annotation_words line = if starts_with nat_eq line (codes "@") then filter (λ word. nat_lt 0 (length word)) (slice_split is_space (drop 1 line)) else []
 
--- five names and nothing else
-unfoldable pub roles : List (List ℕ) → Option Token
-roles (process ∷ creq ∷ cack ∷ sreq ∷ sack ∷ []) =
-    if list_all is_name (process ∷ creq ∷ cack ∷ sreq ∷ sack ∷ [])
-    then Some (token.Roles (record { process = process; creq = creq; cack = cack; sreq = sreq; sack = sack }))
-    else None
-roles _ = None
+-- the words of an annotation: `roles` and five names, or `resource` and three names
+pub data AnnotationText : List (List ℕ) → Token → Type 0 where
+  roles : (n : RolesNames) → IsName n.process → IsName n.creq → IsName n.cack → IsName n.sreq → IsName n.sack →
+      AnnotationText (codes "roles" ∷ n.process ∷ n.creq ∷ n.cack ∷ n.sreq ∷ n.sack ∷ []) (token.Roles n)
+  resource : (n : ResourceNames) → IsName n.process → IsName n.acquire → IsName n.release → AnnotationText (codes "resource" ∷ n.process ∷ n.acquire ∷ n.release ∷ []) (token.Resource n)
 
--- three names and nothing else
-unfoldable pub resource : List (List ℕ) → Option Token
-resource (process ∷ acquire ∷ release ∷ []) =
-    if list_all is_name (process ∷ acquire ∷ release ∷ [])
-    then Some (token.Resource (record { process = process; acquire = acquire; release = release }))
-    else None
-resource _ = None
-
--- the piece that is `--@`, these words and what follows them: an annotation with too few or too many names is none
-unfoldable pub marked_piece : Place → List (List ℕ) → List ℕ → Option Piece
-marked_piece at [] rest = Some (nothing rest)
-marked_piece at (word ∷ names) rest =
-    if bytes_eq word (codes "roles") then one_before at rest (roles names)
-    else if bytes_eq word (codes "resource") then one_before at rest (resource names)
-    else Some (nothing rest)
-
--- the line comment that stands at the front of a text, of which the line is this one and the rest follows it
-unfoldable pub line_piece : Place → List ℕ → List ℕ → Option Piece
-line_piece at line rest = if starts_with nat_eq line (codes "--@") then marked_piece at (words_of (drop 3 line)) rest else Some (nothing rest)
-
-abbrev pub line_comment : Place → List ℕ → Option Piece
-line_comment at text = line_piece at (take (line_len text) text) (drop (line_len text) text)
+-- a line comment with these words is no annotation
+abbrev pub is_plain : List (List ℕ) → Bool
+is_plain [] = true
+is_plain (word ∷ names) = not (bytes_eq word (codes "roles") || bytes_eq word (codes "resource"))

@@ -1,7 +1,7 @@
 -- Classes of bytes, for private contracts.
 use Rattle.std.specs.Prelude.{ℕ, Bool, not, nat_eq}
-use Rattle.csp_lexer.specs.Tokens.{is_digit}
-use Rattle.csp_lexer.specs.Words.{is_name_byte, is_prime}
+use Rattle.csp_lexer.specs.Words.{is_digit, is_name_byte}
+use Rattle.csp_lexer.specs.WordTokens.{is_prime}
 use Rattle.csp_lexer.specs.declared.classes.Class.{Class}
 use Rattle.csp_lexer.specs.declared.classes.Class.TheVariants as class
 

@@ -1,17 +1,14 @@
 -- The piece that stands at the front of a text: a blank, a comment, an annotation, an assertion or a token.
-use Rattle.std.specs.Prelude.{ℕ, Bool, false, ◌||◌, nat_eq, if◌then◌else◌, List, drop, take, codes, Option, Some, slice_index}
+use Rattle.std.specs.Prelude.{ℕ, Bool, false, nat_eq, if◌then◌else◌, List, drop, take, codes, Option, Some, slice_index}
 use Rattle.csp_base.specs.Standard.{starts_with, bytes_eq}
 use Rattle.csp_base.specs.declared.place.Place.{Place}
-use Rattle.csp_lexer.specs.Annotations.{is_space, line_comment}
-use Rattle.csp_lexer.specs.Assertions.{assertion}
+use Rattle.csp_lexer.specs.AnnotationPieces.{line_comment}
+use Rattle.csp_lexer.specs.AssertionPieces.{assertion}
 use Rattle.csp_lexer.specs.Comments.{after_comments}
+use Rattle.csp_lexer.specs.Cut.{is_blank}
 use Rattle.csp_lexer.specs.Pieces.{Piece, nothing, nothing_before, one_at}
 use Rattle.csp_lexer.specs.Tokens.{token_at}
-use Rattle.csp_lexer.specs.Words.{word_len}
-
--- a space, a tab, a carriage return or a line feed
-abbrev pub is_blank : ℕ → Bool
-is_blank b = is_space b || nat_eq b 10
+use Rattle.csp_lexer.specs.WordTokens.{word_len}
 
 -- the text's first word is `assert`
 unfoldable pub begins_assertion : List ℕ → Bool

@@ -1,10 +1,15 @@
+pub mod AnnotationPieces
 pub mod Annotations
+pub mod AssertionPieces
 pub mod Assertions
 pub mod Classes
 pub mod Comments
+pub mod Cut
 pub mod Cutting
 pub mod Front
+pub mod Laws
 pub mod Lexed
+pub mod Lexemes
 pub mod Passed
 pub mod Pieces
 pub mod Placed
@@ -12,4 +17,5 @@ pub mod Places
 pub mod Prelude
 pub mod Symbols
 pub mod Tokens
+pub mod WordTokens
 pub mod Words

@@ -1,16 +1,14 @@
 -- The token that a text begins with: a word, a number or a symbol, the longest that fits.
-use Rattle.std.specs.Prelude.{ℕ, ◌+◌, ◌-◌, ◌*◌, Bool, ◌&&◌, nat_le, nat_lt, if◌then◌else◌, List, length, take, fold, Option, Some, None}
+use Rattle.std.specs.Prelude.{ℕ, ◌+◌, ◌-◌, ◌*◌, Bool, nat_le, nat_lt, if◌then◌else◌, List, length, take, fold, Option, Some, None}
 use Rattle.std.specs.List.{prefix_len}
 use Rattle.dl_limits.specs.declared.TheConstants.{GREATEST_NUMBER}
 use Rattle.csp_text.specs.Prelude.{symbol_text}
 use Rattle.csp_text.specs.declared.token.Symbol.{Symbol}
 use Rattle.csp_text.specs.declared.token.Token.{Token}
 use Rattle.csp_text.specs.declared.token.Token.TheVariants as token
-use Rattle.csp_lexer.specs.Words.{word_len, word_token}
+use Rattle.csp_lexer.specs.Words.{is_digit}
+use Rattle.csp_lexer.specs.WordTokens.{word_len, word_token}
 use Rattle.csp_lexer.specs.Symbols.{symbol_at}
-
-abbrev pub is_digit : ℕ → Bool
-is_digit b = nat_le 48 b && nat_le b 57
 
 -- how many digits the text begins with
 unfoldable pub digits_len : List ℕ → ℕ

@@ -30,7 +30,7 @@ fn are_names(words: &[&[u8]]) -> bool
 }
 
 // The annotation of five names, or `None` where the words are anything else.
-#[tactic(auto, unfolding(crate::specs::Annotations::roles))]
+#[tactic(auto, unfolding(crate::specs::AnnotationPieces::roles))]
 fn roles(alloc: Global, words: &[&[u8]]) -> Made<Option<Token>>
     ensures { IfOk result (λ found. found ≡ roles (map (λ word. word.now) words.now)) }
 {
@@ -50,7 +50,7 @@ fn roles(alloc: Global, words: &[&[u8]]) -> Made<Option<Token>>
 }
 
 // The annotation of three names, or `None` where the words are anything else.
-#[tactic(auto, unfolding(crate::specs::Annotations::resource))]
+#[tactic(auto, unfolding(crate::specs::AnnotationPieces::resource))]
 fn resource(alloc: Global, words: &[&[u8]]) -> Made<Option<Token>>
     ensures { IfOk result (λ found. found ≡ resource (map (λ word. word.now) words.now)) }
 {
@@ -68,7 +68,7 @@ fn resource(alloc: Global, words: &[&[u8]]) -> Made<Option<Token>>
 }
 
 // Passes a line comment that begins with `--@` and these words, which may be an annotation.
-#[tactic(auto, unfolding(crate::specs::Annotations::marked_piece))]
+#[tactic(auto, unfolding(crate::specs::AnnotationPieces::marked_piece))]
 fn pass_marked<'a>(words: &[&[u8]], rest: &'a [u8], at: Place, found: &mut Tokens) -> Left<'a>
     ensures passed { IfOk result (λ left.
         Passed (marked_piece at (map (λ word. word.now) words.now) rest.now) found.old found.new (option_copied left)) }
@@ -89,7 +89,7 @@ fn pass_marked<'a>(words: &[&[u8]], rest: &'a [u8], at: Place, found: &mut Token
 }
 
 // Passes a line comment, which may be an annotation.
-#[tactic(auto, using(std::proofs::lemmas::List::take_rest), unfolding(crate::specs::Annotations::line_piece))]
+#[tactic(auto, using(std::proofs::lemmas::List::take_rest), unfolding(crate::specs::AnnotationPieces::line_piece))]
 pub(crate) fn pass_line<'a>(line: &[u8], rest: &'a [u8], at: Place, found: &mut Tokens) -> Left<'a>
     ensures passed { IfOk result (λ left.
         Passed (line_piece at line.now rest.now) found.old found.new (option_copied left)) }

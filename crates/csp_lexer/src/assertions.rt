@@ -34,7 +34,7 @@ fn add_line<'a>(at: Place, rest: &'a [u8], line: Tokens, found: &mut Tokens) -> 
 }
 
 // Passes what follows the word `assert`, which stands at this place.
-#[tactic(auto, using(std::proofs::lemmas::List::take_rest), unfolding(crate::specs::Assertions::assertion))]
+#[tactic(auto, using(std::proofs::lemmas::List::take_rest), unfolding(crate::specs::AssertionPieces::assertion))]
 pub(crate) fn pass_assertion<'a>(text: &'a [u8], at: Place, found: &mut Tokens) -> Made<&'a [u8]>
     ensures passed { IfOk result (λ left. Passed (Some (assertion at text.now)) found.old found.new (Some left.now)) }
     ensures within { IfOk result (λ left. length left.now ≤ length text.now) }

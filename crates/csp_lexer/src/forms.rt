@@ -3,12 +3,12 @@
 ghost use Rattle.std.specs.Prelude.{◌≡◌, ◌+◌, ◌<◌, ◌≤◌, ◌^◌, List, ◌∷◌};
 ghost use Rattle.std.specs.Option.{option_copied};
 ghost use Rattle.csp_text.specs.declared.token.Token.{Token as TokenValue};
-ghost use Rattle.csp_lexer.specs.Assertions.{after_arguments, after_call, after_closing, is_closed, is_deadlock_assertion, is_deadlock_free};
+ghost use Rattle.csp_lexer.specs.Prelude.{after_arguments, after_call, after_closing, is_closed, is_deadlock_assertion, is_deadlock_free};
 
 use csp_text::{Symbol, Token};
 
 // Whether the tokens close the bracket of `[ deadlock free`, with a model or without.
-#[tactic(auto, unfolding(crate::specs::Assertions::is_closed))]
+#[tactic(auto, unfolding(crate::specs::AssertionPieces::is_closed))]
 fn is_closed(tokens: &[Token]) -> bool
     ensures { result ≡ is_closed tokens.now }
 {
@@ -28,7 +28,7 @@ fn is_closed(tokens: &[Token]) -> bool
 }
 
 // Whether the tokens say that what stands before them is free of deadlock.
-#[tactic(auto, unfolding(crate::specs::Assertions::is_deadlock_free))]
+#[tactic(auto, unfolding(crate::specs::AssertionPieces::is_deadlock_free))]
 fn is_deadlock_free(tokens: &[Token]) -> bool
     ensures { result ≡ is_deadlock_free tokens.now }
 {
@@ -83,7 +83,7 @@ fn after_closing(tokens: &[Token]) -> Option<&[Token]>
 }
 
 // What follows the arguments at the front, where there are some.
-#[tactic(auto, unfolding(crate::specs::Assertions::after_arguments))]
+#[tactic(auto, unfolding(crate::specs::AssertionPieces::after_arguments))]
 fn after_arguments(tokens: &[Token]) -> Option<&[Token]>
     ensures { option_copied result ≡ after_arguments tokens.now }
 {
@@ -94,7 +94,7 @@ fn after_arguments(tokens: &[Token]) -> Option<&[Token]>
 }
 
 // What follows the name at the front and its arguments.
-#[tactic(auto, unfolding(crate::specs::Assertions::after_call))]
+#[tactic(auto, unfolding(crate::specs::AssertionPieces::after_call))]
 fn after_call(tokens: &[Token]) -> Option<&[Token]>
     ensures { option_copied result ≡ after_call tokens.now }
 {

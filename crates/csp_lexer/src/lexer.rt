@@ -3,7 +3,7 @@
 ghost use Rattle.std.specs.Prelude.{◌≡◌, ◌<◌, ◌≤◌, true, nat_eq, codes, [], length, IsTrue, IfOk, IfErr, IfSome, Ok, Err};
 ghost use Rattle.csp_base.specs.Standard.{starts_with, option_copied};
 ghost use Rattle.csp_base.specs.Stops.{Tells};
-ghost use Rattle.csp_lexer.specs.Prelude.{line_comment, begins_assertion, front, is_blank, assertion_or_token, lexed, Passed};
+ghost use Rattle.csp_lexer.specs.Prelude.{line_comment, CutTokensAreFound, begins_assertion, front, is_blank, assertion_or_token, lexed, Passed};
 
 use crate::annotations::pass_line;
 use crate::assertions::pass_assertion;
@@ -112,3 +112,8 @@ pub fn lex(alloc: Global, text: &[u8]) -> Result<Tokens, Stop<NoScript>>
     let end = pass_all(text, &mut found)?;
     Ok(found.end_at(end))
 }
+
+/// A text is cut into exactly the tokens that are found.
+pub fn cut_tokens_are_found()
+    ensures { CutTokensAreFound }
+{}

@@ -18,5 +18,5 @@ mod symbols;
 pub mod tokens;
 mod words;
 
-pub use lexer::lex;
+pub use lexer::{cut_tokens_are_found, lex};
 pub use tokens::Tokens;

@@ -35,7 +35,7 @@ pub(crate) fn rest_len(text: &[u8]) -> usize
 }
 
 // Passes the blank or the token at the front of the rest of an assertion's line.
-#[tactic(auto, using(std::proofs::lemmas::List::take_rest), unfolding(crate::specs::Assertions::line_front))]
+#[tactic(auto, using(std::proofs::lemmas::List::take_rest), unfolding(crate::specs::AssertionPieces::line_front))]
 fn pass_on_line<'a>(text: &'a [u8], at: Place, found: &mut Tokens) -> Left<'a>
     requires { 0 < length text.now }
     ensures passed { IfOk result (λ left. Passed (line_front at text.now) found.old found.new (option_copied left)) }

@@ -1,7 +1,7 @@
 //! Words of a text: how long the one at the front is, and which of them are reserved.
 
 ghost use Rattle.std.specs.Prelude.{◌≡◌, ◌≤◌, ℕ, List, ◌∷◌, None, false, length, IsTrue};
-ghost use Rattle.csp_lexer.specs.Words.{is_foreign, is_name, reserved_word, word_len, word_rest_len};
+ghost use Rattle.csp_lexer.specs.Prelude.{is_foreign, is_name, reserved_word, word_len, word_rest_len};
 
 use crate::classes::{Class, bytes_of, is_letter};
 use csp_text::{Word, word_text};
@@ -16,7 +16,7 @@ fn word_rest_len(text: &[u8]) -> usize
 }
 
 // How many bytes the longest word at the front of the text has, or 0 where the text begins with none.
-#[tactic(auto, unfolding(crate::specs::Words::word_len))]
+#[tactic(auto, unfolding(crate::specs::WordTokens::word_len))]
 pub(crate) fn word_len(text: &[u8]) -> usize
     ensures value { result ≡ word_len text.now }
     ensures within { result ≤ length text.now }
@@ -28,7 +28,7 @@ pub(crate) fn word_len(text: &[u8]) -> usize
 }
 
 // Whether a word that this or a larger language reserves may begin with these two bytes.
-#[tactic(auto, unfolding(crate::specs::Words::reserved_word, crate::specs::Words::is_foreign))]
+#[tactic(auto, unfolding(crate::specs::WordTokens::reserved_word, crate::specs::Words::is_foreign))]
 fn may_begin_word(first: u8, second: u8) -> bool
     ensures reserved { (result ≡ false) → (rest : List ℕ) → reserved_word (first ∷ second ∷ rest) ≡ None }
     ensures foreign { (result ≡ false) → (rest : List ℕ) → is_foreign (first ∷ second ∷ rest) ≡ false }
@@ -124,7 +124,7 @@ pub(crate) fn is_foreign(word: &[u8]) -> bool
 }
 
 // Whether the bytes are a word that is not reserved.
-#[tactic(auto, unfolding(crate::specs::Words::is_name))]
+#[tactic(auto, unfolding(crate::specs::WordTokens::is_name))]
 pub(crate) fn is_name(bytes: &[u8]) -> bool
     ensures { result ≡ is_name bytes.now }
 {

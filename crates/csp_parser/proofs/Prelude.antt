@@ -1,17 +1,17 @@
 -- What the proofs of this crate cite of the crates below, and of its own definitions.
-pub use Rattle.csp_base.proofs.Standard.{IfOk-weaker, false≢true, length-map, nat_tests, take-append-drop}
+pub use Rattle.csp_base.proofs.Standard.{IfOk-weaker, take-append-drop}
 pub use Rattle.csp_base.specs.Prelude.{greatest}
-pub use Rattle.csp_base.specs.Standard.{bytes_eq, starts_with}
 pub use Rattle.csp_base.specs.declared.place.Place.{Place}
+pub use Rattle.csp_base.specs.Stops.{Tells}
 pub use Rattle.csp_base.specs.declared.stop.Stop.{Stop}
+pub use Rattle.csp_text.specs.declared.fault.NoScript.{NoScript}
 pub use Rattle.csp_grammar.specs.Declarations.{AssertedText, DeclarationText, DeclarationsText, ModelText, NamesText, ParametersText, ScriptText, TypesText}
 pub use Rattle.csp_grammar.specs.Prelude.{AtomText, Choice, ChoiceText, ConditionsText, DotsText, DottedText, EventText, ExpressionText, FieldsText, GenText, GensText, HidingText, ItemText, ItemsText, Level, OpenText, PairsText, PartText, PartsText, PrefixText, Reach, SequenceText, SideText, TreeText, choice_of, event_tree, external, internal, part_tree}
 pub use Rattle.csp_grammar.specs.Reader.{and_then}
 pub use Rattle.csp_lexer.proofs.SymbolsLemmas.{symbol_has_byte}
-pub use Rattle.csp_lexer.specs.Prelude.{Piece, PlacedTokens, added, asserted, before, beginning, begins_assertion, behind_all, cut_line, digits_len, is_blank, is_deadlock_assertion, is_space, lexed, line_len, nothing_before, number_token, one_at, one_before, resource, rest_len, roles, symbol_at, symbol_with_len, then_cut, tokens_of, with_len, word_len, word_token, words_of}
-unfoldable pub use Rattle.csp_lexer.specs.Prelude.{after_comments, assertion, cut, front, line_front, line_piece, marked_piece, token_at}
+pub use Rattle.csp_lexer.specs.Prelude.{Cut, Lexeme, LineCut, PlacedTokens, lexed, line_len, rest_len, tokens_of}
 pub use Rattle.csp_parser.specs.Sizes.{SpelledScriptsAreSmall}
-pub use Rattle.csp_parser.specs.Spells.{EachTextSpellsOneScript}
+pub use Rattle.csp_parser.specs.Spells.{EachTextSpellsOneScript, Spells}
 pub use Rattle.csp_text.specs.Prelude.{tree_depth}
 pub use Rattle.csp_text.specs.declared.tree.FieldTree.{FieldTree}
 pub use Rattle.csp_text.specs.declared.tree.GenTree.{GenTree}
@@ -26,9 +26,9 @@ pub use Rattle.dl_limits.specs.declared.TheConstants.{MOST_BYTES, MOST_TREE_DEPT
 pub use Rattle.script_sizes.proofs.TokenForms.{field_tokens-Dot, field_tokens-Input, field_tokens-Output, gen_tokens-Cond, gen_tokens-From, part_tokens-is, tokens-Binary, tokens-Call, tokens-Comp, tokens-Display, tokens-Dot, tokens-EachExternal, tokens-EachInternal, tokens-EachParallel, tokens-External, tokens-False, tokens-Guard, tokens-Hide, tokens-If, tokens-Internal, tokens-Name, tokens-Neg, tokens-Not, tokens-Num, tokens-Parallel, tokens-Prefix, tokens-Product, tokens-Range, tokens-Rename, tokens-Seq, tokens-SetOp, tokens-Skip, tokens-Stop, tokens-True}
 pub use Rattle.script_sizes.specs.BindingTokens.{all_tokens, fields_tokens, gen_tokens, gens_tokens, pairs_tokens, part_tokens, parts_tokens, tokens}
 pub use Rattle.script_sizes.specs.Size.{AreSmall, declaration_depth, declaration_size, depth, size}
-pub use Rattle.std.proofs.Common.{Bool, Err, List, None, Option, Some, [], ap, append-nil, append_assoc, arith, codes, drop, eqb, false, length, length-append, length-drop, map, max, refl, subst, suc, sym, take, true, zero, ℕ, ◌*◌, ◌++◌, ◌+◌, ◌-◌, ◌<◌, ◌∙◌, ◌∷◌, ◌≡◌, ◌≤◌}
+pub use Rattle.std.proofs.Common.{Bool, Err, List, None, Option, Some, [], ap, append-nil, append_assoc, arith, drop, eqb, false, length, length-append, length-drop, map, max, refl, subst, suc, sym, take, true, ℕ, ◌*◌, ◌++◌, ◌+◌, ◌-◌, ◌<◌, ◌∙◌, ◌∷◌, ◌≡◌, ◌≤◌}
 pub use Rattle.std.proofs.lemmas.Bool.{eqb-true}
-pub use Rattle.std.specs.Prelude.{IfOk, IfSome, Ok, Result, if◌then◌else◌, nat_eq, nat_lt, slice_index}
+pub use Rattle.std.specs.Prelude.{IfErr, IfOk, Ok, Result}
 pub use Rattle.tree_parser.proofs.ListSteps.{item_missing, last_item_read, later, next_item}
 pub use Rattle.tree_parser.proofs.SoFar.{Comes, SoFar}
 pub use Rattle.tree_parser.specs.Reads.{Reads}

@@ -1,7 +1,8 @@
 -- A script is no larger than each of its texts is long: each of its declarations begins with a token that is none of its names, parameters, types and
 -- binding tokens. And no tree of it is deeper than the grammar allows.
-use Rattle.csp_parser.proofs.Prelude.{◌≡◌, ℕ, ◌+◌, ◌≤◌, max, List, length, map, arith, length-map, IfOk-weaker, Result, IfOk, Ok, NamesText, TypesText, ParametersText, AssertedText, ModelText, DeclarationText, DeclarationsText, ScriptText, lexed, PlacedTokens, tokens_of, Decl, Script, Symbol, Token, Tree, all_tokens, tokens, tokens-Call, tokens-Name, greatest, tree_depth, MOST_BYTES, MOST_TREE_DEPTH, SpelledScriptsAreSmall, AreSmall, declaration_depth, declaration_size, depth, size}
+use Rattle.csp_parser.proofs.Prelude.{◌≡◌, ℕ, ◌+◌, ◌≤◌, Spells, max, List, length, map, arith, IfOk-weaker, Result, IfOk, Ok, NamesText, TypesText, ParametersText, AssertedText, ModelText, DeclarationText, DeclarationsText, ScriptText, lexed, PlacedTokens, tokens_of, Decl, Script, Symbol, Token, Tree, all_tokens, tokens, tokens-Call, tokens-Name, greatest, tree_depth, MOST_BYTES, MOST_TREE_DEPTH, SpelledScriptsAreSmall, AreSmall, declaration_depth, declaration_size, depth, size}
 use Rattle.csp_grammar.specs.Declarations as d
+use Rattle.csp_parser.proofs.Scripts.{text_spells}
 use Rattle.csp_parser.proofs.TokenCounts.{no_more_than_bytes}
 use Rattle.csp_parser.proofs.TreeTokens.{atom_tokens, items_tokens, tree_tokens}
 
@@ -72,13 +73,12 @@ declarations_shallow (d.more {d = x'} {ds = ds'} x ds) = no_deeper (declaration_
 
 pub spelled_small : SpelledScriptsAreSmall
 spelled_small text script s within =
-    let few : size script.decls ≤ length (tokens_of s.found.placed) = declarations_fit s.spelled in
-    let counted : length (tokens_of s.found.placed) ≡ length s.found.placed = length-map s.found.placed (λ p. p.0) in
-    let spelled : length s.found.placed ≤ length text = no_more_than_bytes text s.found s.cut in
+    let few : size script.decls ≤ length s.tokens = declarations_fit s.spelled in
+    let spelled : length s.tokens ≤ length text = no_more_than_bytes s.cut in
     let fits : size script.decls ≤ length text = omega arith in
     record { few = at_most (size script.decls) (length text) MOST_BYTES fits within; shallow = declarations_shallow s.spelled }
 
 -- what the script owes that was read of the tokens of a text
 pub read_small : {E : Type 0} (text : List ℕ) (found : PlacedTokens) (r : Result Script E) → lexed text ≡ Ok found → IfOk r (λ script. ScriptText (tokens_of found.placed) script)
     → IfOk r (λ script. length text ≤ MOST_BYTES → AreSmall script.decls)
-read_small text found r cut spelled = IfOk-weaker r _ _ (λ script s. spelled_small text script (record { found = found; cut = cut; spelled = s })) spelled
+read_small text found r is spelled = IfOk-weaker r (Spells text) _ (λ script s. spelled_small text script s) (text_spells text found r is spelled)

@@ -162,10 +162,10 @@ text_stuck text seed steps a calls is = text_ran text seed steps true a calls is
 printed_again : (text : List ℕ) (script : Script) → SpellsOnlyScript text script → SpellsOnlyScript (script_text script) script
 printed_again text script spells =
     let first = spells.spelled in
-    let again = printed_spells text first.found script first.cut first.spelled in
+    let again = printed_spells text first.tokens script first.cut first.spelled in
     record {
-      spelled = record { found = again.0; cut = again.1; spelled = again.2 };
-      only = λ t spelled. no_other text first.found script first.cut first.spelled spelled.found t spelled.cut spelled.spelled;
+      spelled = record { tokens = again.0; cut = again.1; spelled = again.2 };
+      only = λ t spelled. no_other text first.tokens script first.cut first.spelled spelled.tokens t spelled.cut spelled.spelled;
     }
 
 pub text_shown : (text : List ℕ) (a : Answer) → TextIsShown text a → status a ≡ 0 → SpellsShown text (report_text a)

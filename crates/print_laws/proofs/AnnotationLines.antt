@@ -1,7 +1,7 @@
 -- The line of an annotation is found as its token.
 use Rattle.print_laws.proofs.Prelude.{◌≡◌, ℕ, suc, ◌+◌, ◌<◌, Bool, true, false, List, [], ◌∷◌, ◌++◌, length, take, drop, codes, refl, ap, ◌∙◌, length-append, arith, cond-true, cond-false, false≢true, not-true, and_from, list_all-append, take-append_seam, drop-append_seam, Some, None, cond, nat_eq, nat_lt, not, filter, list_all, onto_first, prefix_len, slice_split, Place, is_space, line_comment, line_piece, marked_piece, resource, roles, words_of, line_len, front, one, one_before, is_foreign, is_name, reserved_word, word_len, word_rest_len, spaced_names, token_text, AreResource, AreRoles, IsName, and_first, and_second, ResourceNames, RolesNames}
 use Rattle.csp_text.specs.declared.token.Token.TheVariants as token
-use Rattle.print_laws.proofs.Cuts.{Stands}
+use Rattle.csp_lexer.proofs.Cuts.{Stands}
 use Rattle.print_laws.proofs.FoundTokens.{AreNames}
 use Rattle.print_laws.proofs.Names.{name_parts}
 use Rattle.print_laws.proofs.Quiet.{is_word_byte, name_bytes, weaker}

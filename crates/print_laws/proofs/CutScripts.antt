@@ -8,7 +8,7 @@ use Rattle.csp_text.specs.declared.script.Decl.TheVariants as decl
 use Rattle.print_laws.specs.Made as m
 use Rattle.print_laws.proofs.Plain.{Plain}
 use Rattle.print_laws.proofs.AnnotationLines.{resource_stands, roles_stands}
-use Rattle.print_laws.proofs.Cuts.{Cuts, IsCut, IsPiece, Stands, cuts_more, cuts_nothing}
+use Rattle.csp_lexer.proofs.Cuts.{Cuts, IsCut, IsPiece, Stands, cuts_more, cuts_nothing}
 use Rattle.print_laws.proofs.Held.{Held, held_items, held_tree, is_other, is_own}
 use Rattle.print_laws.proofs.Onto as onto
 use Rattle.print_laws.proofs.Parentheses.{close_passed, last_close_passed, open_passed, other_none, other_on_line, other_plain, own_none, own_plain, passed_over}

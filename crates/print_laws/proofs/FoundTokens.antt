@@ -1,10 +1,11 @@
 -- Each token that the lexer finds is well formed.
-use Rattle.print_laws.proofs.Prelude.{◌≡◌, ℕ, suc, ◌+◌, ◌≤◌, Bool, true, false, ◌&&◌, List, [], ◌∷◌, length, take, drop, codes, refl, sym, ap, ◌∙◌, arith, cond-true, cond-false, false≢true, length-drop, length-take-le, prefix_len-le-length, Option, Some, None, cond, find, nat_eq, nat_le, nat_lt, not, is_none, if◌then◌else◌, list_all, prefix_len, starts_with, bytes_eq, and_first, and_second, symbol_text, symbols, word_text, words, Token, Word, resource, roles, begins_assertion, longest_symbol, symbol_at, continued, digits_len, number_token, symbol_with_len, token_at, with_len, is_foreign, is_letter, is_name, is_name_byte, is_prime, reserved_word, word_len, word_or_name, word_rest_len, word_token, Fits, FitsLine, IsName, is_single, is_assert}
+use Rattle.print_laws.proofs.Prelude.{◌≡◌, ℕ, suc, ◌+◌, ◌≤◌, Bool, true, false, ◌&&◌, List, [], ◌∷◌, length, take, codes, refl, sym, ap, ◌∙◌, arith, cond-true, cond-false, false≢true, length-take-le, Option, Some, None, nat_eq, nat_le, nat_lt, not, is_none, if◌then◌else◌, list_all, prefix_len, starts_with, bytes_eq, and_first, and_second, symbol_text, symbols, words, Token, Word, resource, roles, begins_assertion, longest_symbol, symbol_at, continued, digits_len, number_token, symbol_with_len, token_at, with_len, is_foreign, is_letter, is_name, is_name_byte, is_prime, reserved_word, word_len, word_or_name, word_rest_len, word_token, Fits, FitsLine, IsName, is_single, is_assert}
 use Rattle.csp_text.specs.declared.token.Symbol.{Symbol}
 use Rattle.csp_text.specs.declared.token.Token.TheVariants as token
 use Rattle.csp_text.specs.declared.token.Word.TheVariants as word
 use Rattle.csp_text.specs.declared.token.Symbol.TheVariants as symbol
-use Rattle.print_laws.proofs.Quiet.{word_len_is, word_rest_more, word_rest_primes}
+use Rattle.csp_lexer.proofs.FrontsLemmas.{no_text, no_word, word_len_is, word_rest_more, word_rest_primes, word_rest_within}
+use Rattle.csp_lexer.proofs.LexemeLemmas.{passes_where_found, reserved_is, single_is}
 
 -- what holds of a value, where there is one
 abbrev pub Of : {A : Type 0} → (A → Type 0) → Option A → Type 0
@@ -62,20 +63,6 @@ unfolding word_rest_len
 word_rest_of_front [] = refl
 word_rest_of_front (b ∷ y) = word_rest_front_at b y (is_name_byte b) refl (word_rest_of_front y)
 
-word_rest_within : (y : List ℕ) → word_rest_len y ≤ length y
-unfolding word_rest_len
-word_rest_within y =
-    let n : ℕ = prefix_len is_name_byte y in
-    omega (arith, prefix_len-le-length is_name_byte y, prefix_len-le-length is_prime (drop n y), length-drop n y)
-
-no_word : (c : ℕ) (y : List ℕ) → is_letter c ≡ false → word_len (c ∷ y) ≡ 0
-unfolding word_len
-no_word c y h = cond-false _ _ _ h
-
-no_text : word_len [] ≡ 0
-unfolding word_len
-no_text = refl
-
 record IsFront (text : List ℕ) : Type 0 where
   again : word_len (take (word_len text) text) ≡ word_len text
   len : length (take (word_len text) text) ≡ word_len text
@@ -111,18 +98,6 @@ front_name text h k l =
     all_of _ _ _ _ (ap (nat_lt 0) f.len ∙ h) (same_nat _ _ (f.again ∙ sym f.len)) (ap is_none k) (ap not l)
 
 -- the reserved word `assert` is written so
-
-found_here : {X : Type 0} (test : X → Bool) (x y : X) (rest : Option X) → (rest ≡ Some y → test y ≡ true) → (t : Bool) → test x ≡ t → cond t (Some x) rest ≡ Some y → test y ≡ true
-found_here test x y rest more true e h = let same : x ≡ y = cc in ap test (sym same) ∙ e
-found_here test x y rest more false e h = more h
-
-passes_where_found : {X : Type 0} (test : X → Bool) (xs : List X) (y : X) → find test xs ≡ Some y → test y ≡ true
-passes_where_found test [] y h = cc
-passes_where_found test (x ∷ xs) y h = found_here test x y (find test xs) (passes_where_found test xs y) (test x) refl h
-
-reserved_is : (bytes : List ℕ) (w : Word) → reserved_word bytes ≡ Some w → bytes_eq bytes (word_text w) ≡ true
-unfolding reserved_word
-reserved_is bytes w h = passes_where_found (λ w. bytes_eq bytes (word_text w)) words w h
 
 begins : (text : List ℕ) → begins_assertion text ≡ bytes_eq (take (word_len text) text) (codes "assert")
 unfolding begins_assertion
@@ -195,28 +170,6 @@ line_symbol_fits (Some s) p = p
 begins_so : (text : List ℕ) (s : Symbol) → longest_symbol text ≡ Some s → starts_with nat_eq text (symbol_text s) ≡ true
 unfolding longest_symbol
 begins_so text s h = passes_where_found (λ s. starts_with nat_eq text (symbol_text s)) symbols s h
-
-first_byte : (b c d : ℕ) (text : List ℕ) → starts_with nat_eq text (c ∷ d ∷ []) ≡ true → starts_with nat_eq text (c ∷ []) ≡ true
-first_byte b c d [] h = absurd (false≢true h)
-first_byte b c d (e ∷ []) h = back_to (nat_eq c e) h
-  where
-    back_to : (t : Bool) → (t && false) ≡ true → (t && true) ≡ true
-    back_to true h = absurd (false≢true h)
-    back_to false h = h
-first_byte b c d (e ∷ f ∷ text) h = back_to (nat_eq c e) _ h
-  where
-    back_to : (t u : Bool) → (t && u) ≡ true → (t && true) ≡ true
-    back_to true u h = refl
-    back_to false u h = h
-
-not_both : (t : Bool) → t ≡ true → t ≡ false → ⊥
-not_both t h k = false≢true (sym k ∙ h)
-
-single_is : (text : List ℕ) (s : Symbol) → starts_with nat_eq text (codes "[") ≡ false → starts_with nat_eq text (codes "]") ≡ false → starts_with nat_eq text (symbol_text s) ≡ true → is_single s ≡ true
-single_is text symbol.ExternalChoice h k l = absurd (not_both _ (first_byte 0 91 93 text l) h)
-single_is text symbol.OpenRename h k l = absurd (not_both _ (first_byte 0 91 91 text l) h)
-single_is text symbol.CloseRename h k l = absurd (not_both _ (first_byte 0 93 93 text l) k)
-single_is text _ h k l = refl
 
 longest_single : (text : List ℕ) → starts_with nat_eq text (codes "[") ≡ false → starts_with nat_eq text (codes "]") ≡ false → (o : Option Symbol) → longest_symbol text ≡ o → Of (λ s. is_single s ≡ true) o
 longest_single text h k None e = tt

@@ -1,6 +1,5 @@
 pub mod AnnotationLines
 pub mod CutScripts
-pub mod Cuts
 pub mod Forms
 pub mod FoundLines
 pub mod FoundTokens

@@ -1,6 +1,6 @@
 -- What the proofs of this crate cite of the crates below, and of its own definitions.
 pub use Rattle.csp_base.proofs.Booleans.{and_first, and_second}
-pub use Rattle.csp_base.proofs.Standard.{and_from, and_left, and_parts, bytes_eq-Decides, cond-false, cond-true, decimal_is_IsNumeral, digit_from_value, digit_value_digit, drop-append-le, drop-append_seam, eqb-true, false≢true, length-drop, length-take-le, list_all-append, not-true, prefix_len-le-length, take-append_seam}
+pub use Rattle.csp_base.proofs.Standard.{and_from, and_left, and_parts, bytes_eq-Decides, cond-false, cond-true, decimal_is_IsNumeral, digit_from_value, digit_value_digit, drop-append-le, drop-append_seam, eqb-true, false≢true, length-take-le, list_all-append, not-true, prefix_len-le-length, take-append_seam}
 pub use Rattle.csp_base.specs.Lists.{greatest}
 pub use Rattle.csp_base.specs.Standard.{AllDigits, bytes_eq, digit_value, digits_value_after, option_map_or, prefix_len, starts_with}
 pub use Rattle.csp_base.specs.declared.operators.BinOp.{BinOp}
@@ -10,7 +10,7 @@ pub use Rattle.csp_grammar.specs.Declarations.{AssertedText, DeclarationText, De
 pub use Rattle.csp_grammar.specs.Grammar.{event_tree, part_tree}
 pub use Rattle.csp_grammar.specs.Prelude.{AtomText, Choice, ChoiceText, ConditionsText, DotsText, DottedText, ExpressionText, FieldsText, GenText, GensText, HidingText, IsComparison, IsLeftOperator, ItemText, ItemsText, Level, OpenText, PairsText, PartText, PartsText, PrefixText, Reach, SequenceText, SideText, TreeText, choice_of, choice_sign, closed, comparison, conjunction, conjunction-negation, disjunction, disjunction-conjunction, minus, negation, product, product-minus, renaming, sum, sum-product}
 pub use Rattle.csp_lexer.proofs.SymbolsLemmas.{symbol_has_byte}
-pub use Rattle.csp_lexer.specs.Prelude.{Piece, PlacedTokens, added, after_comments, asserted, assertion_or_token, before, beginning, behind_all, continued, cut_line, ends_line, is_blank, is_digit, is_letter, is_name_byte, is_prime, is_space, lexed, line_comment, nothing, nothing_before, one, one_at, one_before, symbol_with_len, then_cut, tokens_of, with_len, word_or_name, word_token}
+pub use Rattle.csp_lexer.specs.Prelude.{Piece, PlacedTokens, added, after_comments, asserted, assertion_or_token, before, beginning, behind_all, continued, cut_line, ends_line, is_blank, is_digit, is_letter, is_name_byte, is_prime, is_single, is_space, lexed, line_comment, nothing, nothing_before, one, one_at, one_before, symbol_with_len, then_cut, tokens_of, with_len, word_or_name, word_token}
 unfoldable pub use Rattle.csp_lexer.specs.Prelude.{after_arguments, after_call, after_closing, assertion, begins_assertion, cut, digits_len, front, is_closed, is_deadlock_assertion, is_deadlock_free, is_foreign, is_name, line_front, line_len, line_piece, longest_symbol, marked_piece, number_token, reserved_word, resource, rest_len, roles, symbol_at, token_at, word_len, word_rest_len, words_of}
 pub use Rattle.csp_text.specs.Prelude.{field_depth, gen_depth, part_depth, set_op_word, symbol_text, symbols, tree_depth, word_text, words}
 pub use Rattle.csp_text.specs.declared.token.Word.TheVariants.{Assert, Channel}
@@ -32,7 +32,7 @@ pub use Rattle.csp_text.specs.declared.tree.PartTree.{PartTree}
 pub use Rattle.csp_text.specs.declared.tree.Tree.{Tree}
 pub use Rattle.dl_limits.proofs.Printing.{trees_fit}
 pub use Rattle.dl_limits.specs.declared.TheConstants.{MOST_BRACKETS, MOST_TREE_DEPTH}
-pub use Rattle.print_laws.specs.Fits.{AreResource, AreRoles, Every, Fits, FitsLine, IsName, is_common, is_single}
+pub use Rattle.print_laws.specs.Fits.{AreResource, AreRoles, Every, Fits, FitsLine, IsName, is_common}
 pub use Rattle.print_laws.specs.Laws.{FoundTokensAreWellFormed, PrintedTextSpellsNoOther, PrintedTextSpellsTheScript, PrintedTokensAreAText, script_tokens}
 unfoldable pub use Rattle.print_laws.specs.Lines.{Lines}
 pub use Rattle.print_laws.specs.Lines.{behind, is_assert}
@@ -50,7 +50,7 @@ pub use Rattle.std.proofs.Common.{Bool, List, [], ap, append-nil, append_assoc, 
 pub use Rattle.std.proofs.lemmas.List.Folds.{flat_map-map}
 pub use Rattle.std.proofs.lemmas.List.{map-append}
 pub use Rattle.std.specs.List.{filter, list_all, onto_first, slice_split}
-pub use Rattle.std.specs.Prelude.{Err, None, Ok, Option, Result, Some, cond, decimal, find, flat_map, if◌then◌else◌, is_none, nat_eq, nat_le, nat_lt, not, slice_index}
+pub use Rattle.std.specs.Prelude.{Err, None, Ok, Option, Result, Some, cond, decimal, flat_map, if◌then◌else◌, is_none, nat_eq, nat_le, nat_lt, not, slice_index}
 pub use Rattle.tree_reading.proofs.Levels.{pairs_depth}
 pub use Rattle.tree_reading.proofs.Meaning.{at_level, from_level}
 pub use Rattle.tree_reading.proofs.Unique.{one_script}

@@ -1,9 +1,10 @@
 -- The rest of an assertion's line: a token before a space or a line feed is part of it.
-use Rattle.print_laws.proofs.Prelude.{◌≡◌, ℕ, suc, ◌+◌, ◌≤◌, Bool, true, false, ◌||◌, List, [], ◌∷◌, ◌++◌, length, drop, refl, sym, ap, ◌∙◌, arith, cond-true, cond-false, and_left, decimal, nat_eq, not, cond, list_all, prefix_len, symbol_text, word_text, Token, Word, ends_line, rest_len, is_letter, is_name_byte, is_prime, word_len, word_rest_len, is_digit, token_text, FitsLine, IsName, and_first, and_second}
+use Rattle.print_laws.proofs.Prelude.{◌≡◌, ℕ, suc, ◌+◌, ◌≤◌, Bool, true, false, ◌||◌, List, [], ◌∷◌, ◌++◌, length, refl, sym, ◌∙◌, arith, cond-false, and_left, decimal, nat_eq, not, cond, list_all, prefix_len, symbol_text, word_text, Token, Word, ends_line, rest_len, is_letter, is_name_byte, is_prime, word_rest_len, is_digit, token_text, FitsLine, IsName, and_first, and_second}
 use Rattle.csp_text.specs.declared.token.Symbol.{Symbol}
 use Rattle.csp_text.specs.declared.token.Token.TheVariants as token
 use Rattle.csp_text.specs.declared.token.Word.TheVariants as word
 use Rattle.csp_text.specs.declared.token.Symbol.TheVariants as symbol
+use Rattle.csp_lexer.proofs.FrontsLemmas.{word_len_is, word_rest_more, word_rest_primes}
 use Rattle.print_laws.proofs.Names.{begins_with_letter, name_parts}
 use Rattle.print_laws.proofs.Numbers.{decimal_digits}
 
@@ -71,21 +72,6 @@ quiet_word_byte b h = grind (arith)
 quiet_digit : (b : ℕ) → is_digit b ≡ true → is_quiet b ≡ true
 quiet_digit b h = grind (arith)
 
-pub word_rest_more : (b : ℕ) (y : List ℕ) → is_name_byte b ≡ true → word_rest_len (b ∷ y) ≡ 1 + word_rest_len y
-unfolding word_rest_len
-word_rest_more b y e =
-    let n : ℕ = prefix_len is_name_byte y in
-    let next : 1 + n ≡ suc n = omega arith in
-    let len : prefix_len is_name_byte (b ∷ y) ≡ suc n = cond-true (is_name_byte b) (1 + n) 0 e ∙ next in
-    let last : suc n + prefix_len is_prime (drop n y) ≡ 1 + (n + prefix_len is_prime (drop n y)) = omega arith in
-    ap (λ k. k + prefix_len is_prime (drop k (b ∷ y))) len ∙ last
-
-pub word_rest_primes : (b : ℕ) (y : List ℕ) → is_name_byte b ≡ false → word_rest_len (b ∷ y) ≡ prefix_len is_prime (b ∷ y)
-unfolding word_rest_len
-word_rest_primes b y e =
-    let last : 0 + prefix_len is_prime (b ∷ y) ≡ prefix_len is_prime (b ∷ y) = omega arith in
-    ap (λ k. k + prefix_len is_prime (drop k (b ∷ y))) (cond-false (is_name_byte b) (1 + prefix_len is_name_byte y) 0 e) ∙ last
-
 prime_first : (t : Bool) (n m : ℕ) → cond t (1 + n) 0 ≡ suc m → (t ≡ true) × (n ≡ m)
 prime_first true n m e = (refl, omega arith)
 prime_first false n m e = absurd (omega arith)
@@ -107,10 +93,6 @@ tail_passes_at b y false e more h = primes_pass (b ∷ y) (sym (word_rest_primes
 tail_passes : (y : List ℕ) → word_rest_len y ≡ length y → list_all is_word_byte y ≡ true
 tail_passes [] h = refl
 tail_passes (b ∷ y) h = tail_passes_at b y (is_name_byte b) refl (tail_passes y) h
-
-pub word_len_is : (c : ℕ) (y : List ℕ) → is_letter c ≡ true → word_len (c ∷ y) ≡ 1 + word_rest_len y
-unfolding word_len
-word_len_is c y h = cond-true _ _ _ h
 
 pub name_bytes : (x : List ℕ) → IsName x → list_all is_word_byte x ≡ true
 name_bytes [] h = refl

@@ -1,11 +1,12 @@
 -- The printed text of a script that a text spells spells it too.
-use Rattle.print_laws.proofs.Prelude.{◌≡◌, ℕ, zero, suc, false, List, ◌∷◌, length, refl, sym, subst, arith, Ok, Result, if◌then◌else◌, Place, Decl, Token, front, lexed, PlacedTokens, tokens_of, beginning, DeclarationsText, ScriptText, script_text, Every, Fits, FitsLine, IsName, FoundTokensAreWellFormed, PrintedTextSpellsNoOther, PrintedTextSpellsTheScript, script_tokens, Lines, is_assert, MadeDecls, Script, one_script}
+use Rattle.print_laws.proofs.Prelude.{◌≡◌, ℕ, zero, suc, false, List, ◌∷◌, length, refl, subst, arith, if◌then◌else◌, Decl, Token, front, beginning, DeclarationsText, ScriptText, script_text, Every, Fits, FitsLine, IsName, FoundTokensAreWellFormed, PrintedTextSpellsNoOther, PrintedTextSpellsTheScript, script_tokens, Lines, is_assert, MadeDecls, Script, one_script}
 use Rattle.csp_text.specs.declared.token.Token.TheVariants as token
 use Rattle.csp_text.specs.declared.token.Word.TheVariants as word
 use Rattle.csp_text.specs.declared.token.Symbol.TheVariants as symbol
 use Rattle.print_laws.specs.Lines as position
 use Rattle.print_laws.proofs.CutScripts.{cuts_decls}
-use Rattle.print_laws.proofs.Cuts.{Cuts}
+use Rattle.csp_lexer.proofs.CutLemmas.{cut_tokens_are_found, one_cut}
+use Rattle.csp_lexer.proofs.Cuts.{Cuts}
 use Rattle.print_laws.proofs.FoundLines.{WellFormed, found_fits}
 use Rattle.print_laws.proofs.Parentheses.{behind_other}
 use Rattle.print_laws.proofs.ScriptTexts.{declarations_text}
@@ -70,17 +71,16 @@ printed_cuts : (script : Script) → MadeDecls Fits FitsLine script.decls → Cu
 unfolding script_text
 printed_cuts script m = cuts_decls m
 
-pub printed_spells : PrintedTextSpellsTheScript
-printed_spells text found script e p =
-    let m = made p (found_fits text found e) in
-    let c = (printed_cuts script m).cuts (length (script_text script)) beginning (omega arith) in
-    (c.found, c.is, subst (λ ts. ScriptText ts script) (sym c.same) (declarations_text m))
+pub cut_tokens_fit : FoundTokensAreWellFormed
+cut_tokens_fit text tokens c = let found = (cut_tokens_are_found text tokens).0 c in subst WellFormed found.2 (found_fits text found.0 found.1)
 
-same_found : (x y : PlacedTokens) (result : Result PlacedTokens Place) → result ≡ Ok x → result ≡ Ok y → x ≡ y
-same_found x y result e f = cc
+pub printed_spells : PrintedTextSpellsTheScript
+printed_spells text tokens script e p =
+    let m = made p (cut_tokens_fit text tokens e) in
+    let c = (printed_cuts script m).cuts (length (script_text script)) beginning (omega arith) in
+    (script_tokens script, (cut_tokens_are_found (script_text script) (script_tokens script)).1 (c.found, c.is, c.same), declarations_text m)
 
 pub no_other : PrintedTextSpellsNoOther
-no_other text found script e p again other f q =
-    let printed = printed_spells text found script e p in
-    let same = same_found printed.0 again (lexed (script_text script)) printed.1 f in
-    one_script (tokens_of again.placed) other script q (subst (λ x. ScriptText (tokens_of x.placed) script) same printed.2)
+no_other text tokens script e p again other f q =
+    let printed = printed_spells text tokens script e p in
+    one_script again other script q (subst (λ ts. ScriptText ts script) (one_cut (script_text script) printed.0 again printed.1 f) printed.2)

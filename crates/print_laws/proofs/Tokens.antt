@@ -4,7 +4,7 @@ use Rattle.csp_text.specs.declared.token.Token.TheVariants as token
 use Rattle.csp_text.specs.declared.token.Word.TheVariants as word
 use Rattle.csp_text.specs.declared.token.Symbol.TheVariants as symbol
 use Rattle.print_laws.proofs.Plain.{Plain}
-use Rattle.print_laws.proofs.Cuts.{Cuts, IsPiece, Stands, cuts_more, cuts_nothing}
+use Rattle.csp_lexer.proofs.Cuts.{Cuts, IsPiece, Stands, cuts_more, cuts_nothing}
 use Rattle.print_laws.proofs.Names.{name_front, name_line_front, name_parts}
 use Rattle.print_laws.proofs.Numbers.{decimal_digits, number_front, number_line_front}
 use Rattle.print_laws.proofs.Quiet.{Gap}

@@ -2,13 +2,12 @@
 use Rattle.std.specs.Prelude.{◌≡◌, ℕ, ◌≤◌, Bool, true, false, List, [], ◌∷◌}
 use Rattle.csp_text.specs.declared.token.ResourceNames.{ResourceNames}
 use Rattle.csp_text.specs.declared.token.RolesNames.{RolesNames}
-use Rattle.csp_text.specs.declared.token.Symbol.{Symbol}
-use Rattle.csp_text.specs.declared.token.Symbol.TheVariants.{ExternalChoice, OpenRename, CloseRename}
 use Rattle.csp_text.specs.declared.token.Token.{Token}
 use Rattle.csp_text.specs.declared.token.Word.TheVariants.{Assert}
 use Rattle.csp_text.specs.declared.token.Word.{Word}
 use Rattle.csp_text.specs.declared.token.Token.TheVariants as token
-use Rattle.csp_lexer.specs.Words.{is_name}
+use Rattle.csp_lexer.specs.Lexemes.{is_single}
+use Rattle.csp_lexer.specs.WordTokens.{is_name}
 use Rattle.dl_limits.specs.declared.TheConstants.{GREATEST_NUMBER}
 
 -- each of the tokens has the fact
@@ -40,13 +39,6 @@ Fits (token.Word w) = Unit {0}
 Fits (token.Symbol s) = Unit {0}
 Fits (token.Roles names) = AreRoles names
 Fits (token.Resource names) = AreResource names
-
--- on the line of an assertion no symbol is made of two brackets
-abbrev pub is_single : Symbol → Bool
-is_single ExternalChoice = false
-is_single OpenRename = false
-is_single CloseRename = false
-is_single _ = true
 
 -- a token on the line of an assertion
 abbrev pub FitsLine : Token → Type 0

@@ -1,5 +1,5 @@
 -- Texts that are cut into these tokens, wherever they begin.
-use Rattle.print_laws.proofs.Prelude.{◌≡◌, ℕ, zero, suc, ◌≤◌, ◌<◌, List, [], ◌∷◌, ◌++◌, length, refl, ap, ◌∙◌, arith, map-append, Option, Some, Result, Ok, Place, Token, added, before, cut, then_cut, Piece, PlacedTokens, tokens_of, behind_all}
+use Rattle.csp_lexer.proofs.Prelude.{◌≡◌, ℕ, zero, suc, ◌≤◌, ◌<◌, List, [], ◌∷◌, ◌++◌, length, refl, ap, ◌∙◌, arith, map-append, Option, Some, Result, Ok, Place, Token, added, before, cut, then_cut, Piece, PlacedTokens, tokens_of, behind_all}
 
 -- the cut gives these tokens
 pub record IsCut (result : Result PlacedTokens Place) (tokens : List Token) : Type 0 where
