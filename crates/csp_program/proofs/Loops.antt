@@ -131,14 +131,17 @@ module _ {S T A R : Type 0} (most : ℕ) (state : ℕ → T → S) (step : Env �
       one rest (Err k) = refl
 
   pub loops_give_all : (turns : List Turn) (env : Env) (t : T) → and_then (walked turns step env (state 0 t)) last ≡ whole t (given (at_most most (bindings_of turns env)))
-  loops_give_all turns env t = ap (λ o. and_then o last) (walked_through step turns env (state 0 t)) ∙ through_counted most 0 refl (bindings_of turns env) t
+  loops_give_all turns env t = ap (λ o. and_then o last) (walked_through step turns env (state 0 t)) ∙ through_counted most 0 (omega arith) (bindings_of turns env) t
 
 -- ---- comprehensions and productions
+
+abbrev gathered_so : ℕ → List Atom → Gathered
+gathered_so n atoms = record { bindings = n; atoms = atoms }
 
 set_by_loops : (turns : List Turn) (adds : Env → List Atom → Outcome (List Atom)) (gives : Env → List (Outcome Atom))
     → ((env : Env) (atoms : List Atom) → set_with atoms (gives env) ≡ adds env atoms) → (env : Env) → many (set_with [] (under_each turns env gives)) ≡ comprehension turns adds env
 set_by_loops turns adds gives h env =
-    sym (loops_give_all MOST_BINDINGS (λ n atoms. record { bindings = n; atoms = atoms }) (gathered adds) adds gives (λ atoms os. many (set_with atoms os)) (λ state. Ok (Many state.atoms))
+    sym (loops_give_all MOST_BINDINGS gathered_so (gathered adds) adds gives (λ atoms os. many (set_with atoms os)) (λ state. Ok (Many state.atoms))
     (λ inner n atoms. refl) (λ n atoms. refl) (λ atoms k rest. refl)
     (λ inner atoms rest. ap many (set_with_both atoms (gives inner) rest ∙ ap (λ o. and_then o (λ more. set_with more rest)) (h inner atoms)) ∙
     sym (and_then_regroup (adds inner atoms) (λ more. set_with more rest) (λ set. Ok (Many set))))

@@ -3,7 +3,7 @@ use Rattle.std.specs.Prelude.{ℕ, Bool, Option, Some, None, Ok, Err, List, [], 
 use Rattle.csp_atoms.specs.Prelude.{event_numbers}
 use Rattle.csp_atoms.specs.declared.atom.Atom.{Atom}
 use Rattle.csp_atoms.specs.declared.value.Value.{Value}
-use Rattle.csp_program.specs.Prelude.{Outcome, and_then, Env, given_by, proc_with, as_truth, bound_to}
+use Rattle.csp_program.specs.Prelude.{Outcome, and_then, Env, given_by, proc_with, as_set, as_truth, bound_to, value_of}
 use Rattle.csp_program.specs.declared.expressions.Expr.{Expr}
 use Rattle.csp_program.specs.declared.kinds.ValueKind.TheVariants.{Kind}
 use Rattle.csp_program.specs.declared.processes.Proc.{Proc}
@@ -43,15 +43,15 @@ abbrev pub called : Option Def → List Value → Outcome Proc
 called None vs = Err Kind
 called (Some def) vs = process_of def.params def.body vs
 
--- The same where no name is bound.
+-- The same for expressions in which no name is free, as code evaluates them. What a step is doesn't cite these.
 abbrev pub truth_in : Content → Expr → Outcome Bool
-truth_in p c = truth_under p [] c
+truth_in p c = and_then (value_of p c) as_truth
 
 abbrev pub set_in : Content → Expr → Outcome (List Atom)
-set_in p s = set_under p [] s
+set_in p s = and_then (value_of p s) as_set
 
 abbrev pub events_in : Content → Expr → Outcome (List ℕ)
-events_in p s = events_under p [] s
+events_in p s = and_then (set_in p s) (λ atoms. needed_events (event_numbers atoms))
 
 abbrev pub arguments_in : Content → List Expr → Outcome (List Value)
-arguments_in p args = arguments_under p [] args
+arguments_in p args = all_outcomes (value_of p) args

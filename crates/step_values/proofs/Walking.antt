@@ -1,5 +1,5 @@
 -- A renaming as it is walked: what is left of it at each binding.
-use Rattle.step_values.proofs.Prelude.{◌≡◌, ℕ, Ok, Err, List, [], length, map, ap, sym, ◌∙◌, Result, Outcome, and_then, Env, turn, uses_within, walked, EventPart, ValueKind, Content, Atom, over_begun, over_course, Course, GivesBinding, begun, course_under, faulty, skipped, Gathering, binding_renamed, renaming_in, GivesTally, renamed_walk, Gives, EvalFault, IsErrAnd, Gen, Walk, Tally, at_err, weaker, ◌+◌, ◌++◌, ◌∷◌, refl, cond, append-nil, append_assoc, joined, all_outcomes, each_joined, Renamed, pair_renamed, pairs_renamed, loops_give_all}
+use Rattle.step_values.proofs.Prelude.{◌≡◌, ℕ, Ok, Err, List, [], length, map, ap, sym, ◌∙◌, Result, Outcome, and_then, Env, turn, uses_within, walked, EventPart, ValueKind, Content, Atom, over_begun, over_course, Course, GivesBinding, begun, course_under, faulty, skipped, Gathering, binding_renamed, renaming_in, GivesTally, renamed_walk, Gives, EvalFault, IsErrAnd, Gen, Walk, Tally, at_err, weaker, ◌+◌, ◌++◌, ◌∷◌, refl, cond, append-nil, append_assoc, joined, all_outcomes, each_joined, Renamed, pair_renamed, pairs_renamed, loops_give_all, MOST_BINDINGS, SetLimit, nat_lt}
 use Rattle.csp_base.specs.Stops.{Tells}
 
 pub walk_passed : (r : Result Tally EvalFault) (f : EvalFault) (part whole : Outcome Gathering)
@@ -57,18 +57,21 @@ pairs_after p env k (pair ∷ pairs) before rest =
     after_first (Ok ys) = ap (λ o. and_then o (λ done. renamed_after done rest)) (each_after (each_joined (λ k pair. pair_renamed p env pair) (k + 1) pairs) ys)
     after_first (Err fault) = refl
 
+abbrev gathered_so : ℕ → List Renamed → Gathering
+gathered_so n renamed = record { bindings = n; renamed = renamed }
+
 renaming_by_loops : (p : Content) (pairs : List (EventPart × EventPart)) (gens : List Gen)
     → renaming_in p pairs gens ≡
     and_then (walked (map (turn (uses_within p (length p.defs)) p.channels) gens) (binding_renamed p pairs) [] (record { bindings = 0; renamed = [] })) (λ state. Ok state.renamed)
 renaming_by_loops p pairs gens =
-    sym (loops_give_all MOST_BINDINGS (λ n renamed. record { bindings = n; renamed = renamed }) (binding_renamed p pairs) (λ env renamed. and_then (pairs_renamed p env pairs) (λ more. Ok (renamed ++ more)))
+    sym (loops_give_all MOST_BINDINGS gathered_so (binding_renamed p pairs) (λ env renamed. and_then (pairs_renamed p env pairs) (λ more. Ok (renamed ++ more)))
     (λ env. map (pair_renamed p env) pairs) renamed_after (λ state. Ok state.renamed)
     (λ env n renamed i. cond (nat_lt n MOST_BINDINGS) (one_counted n renamed (pairs_renamed p env pairs) i) (Err SetLimit)) (λ n renamed. ap (λ all. Ok all) (sym (append-nil renamed))) (λ renamed k rest. refl)
     (λ env renamed rest. pairs_after p env 0 pairs renamed rest)
     (map (turn (uses_within p (length p.defs)) p.channels) gens) [] [])
   where
     one_counted : (n : ℕ) (renamed : List Renamed) (o : Outcome (List Renamed))
-        → and_then o (λ more. Ok (record { bindings = n + 1; renamed = renamed ++ more })) ≡ and_then (and_then o (λ more. Ok (renamed ++ more))) (λ all. Ok (record { bindings = n + 1; renamed = all }))
+        → and_then o (λ more. Ok (gathered_so (n + 1) (renamed ++ more))) ≡ and_then (and_then o (λ more. Ok (renamed ++ more))) (λ all. Ok (gathered_so (n + 1) all))
     one_counted n renamed (Ok more) = refl
     one_counted n renamed (Err fault) = refl
 
