@@ -1,3 +1,4 @@
 pub mod Forms
+pub mod Loops
 pub mod Outcomes
 pub mod UsesWithin

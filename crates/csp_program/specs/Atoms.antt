@@ -15,9 +15,10 @@ limited atoms = if nat_le (length atoms) MOST_ELEMENTS then Ok atoms else Err Se
 abbrev pub added : List Atom → Atom → Outcome (List Atom)
 added atoms a = if fits atoms a then limited (with_atom atoms a) else Err Kind
 
-abbrev pub all_added : List Atom → List Atom → Outcome (List Atom)
-all_added atoms [] = Ok atoms
-all_added atoms (a ∷ rest) = and_then (added atoms a) (λ more. all_added more rest)
+-- the set with all atoms of a list, from the left
+abbrev pub set_with : List Atom → List (Outcome Atom) → Outcome (List Atom)
+set_with atoms [] = Ok atoms
+set_with atoms (o ∷ rest) = and_then o (λ a. and_then (added atoms a) (λ more. set_with more rest))
 
 -- the numbers from m on, so many of them
 abbrev pub numbers_from : ℤ → ℕ → List Atom

@@ -9,6 +9,7 @@ pub mod ExactParts
 pub mod Free
 pub mod InOrder
 pub mod Lists
+pub mod Loops
 pub mod Nesting
 pub mod Outcome
 pub mod Prelude

@@ -4,9 +4,10 @@ use Rattle.csp_atoms.specs.declared.value.Value.{Value}
 use Rattle.csp_program.specs.Value.{Env}
 use Rattle.csp_program.specs.declared.expressions.Expr.{Expr, fold-Expr}
 use Rattle.csp_program.specs.declared.expressions.Expr.TheVariants as expr
-use Rattle.csp_program.specs.declared.expressions.Expr.TheFolds.{fold-Gen, fold-EventPart}
+use Rattle.csp_program.specs.declared.expressions.Expr.TheFolds.{fold-Gen, fold-EventPart, map-Expr}
 use Rattle.csp_program.specs.declared.expressions.Expr.TheOpen.{Expr-F, Gen-F, EventPart-F}
 use Rattle.csp_program.specs.declared.expressions.EventPart.{EventPart, roll-EventPart}
+use Rattle.csp_program.specs.declared.expressions.Expr.TheViews.{roll-Expr}
 use Rattle.csp_program.specs.declared.expressions.Gen.{Gen}
 use Rattle.csp_program.specs.declared.expressions.Gen.TheVariants as generator
 use Rattle.csp_program.specs.declared.processes.Field.{Field}
@@ -14,7 +15,9 @@ use Rattle.csp_program.specs.declared.processes.Field.TheVariants as field
 use Rattle.csp_program.specs.declared.processes.Head.{Head}
 use Rattle.csp_program.specs.declared.processes.Head.TheVariants as head
 use Rattle.csp_program.specs.declared.processes.Proc.{Proc, fold-Proc}
+use Rattle.csp_program.specs.declared.processes.Proc.TheFolds.{map-Proc}
 use Rattle.csp_program.specs.declared.processes.Proc.TheVariants as proc
+use Rattle.csp_program.specs.declared.processes.Proc.TheViews.{roll-Proc}
 use Rattle.csp_program.specs.declared.processes.Proc.TheOpen.{Proc-F}
 
 -- the value of each name that gets one
@@ -60,24 +63,12 @@ abbrev pub named : ℕ → Option Value → Expr
 named x None = expr.Bound x
 named x (Some v) = expr.Lit v
 
+-- Generators bind names in what stands beside them. Every other form stays, with the values in its parts.
 abbrev pub expr_with_of_layer : Expr-F (Open Expr) OpenGen (Open EventPart) → Open Expr
-expr_with_of_layer (Expr-F.Num n) given = expr.Num n
-expr_with_of_layer (Expr-F.Truth b) given = expr.Truth b
-expr_with_of_layer (Expr-F.Const k) given = expr.Const k
 expr_with_of_layer (Expr-F.Bound x) given = named x (given x)
-expr_with_of_layer (Expr-F.Lit v) given = expr.Lit v
-expr_with_of_layer (Expr-F.Neg a) given = expr.Neg (a given)
-expr_with_of_layer (Expr-F.Not a) given = expr.Not (a given)
-expr_with_of_layer (Expr-F.Binary op a b) given = expr.Binary op (a given) (b given)
-expr_with_of_layer (Expr-F.If c a b) given = expr.If (c given) (a given) (b given)
-expr_with_of_layer (Expr-F.Call d args) given = expr.Call d (each args given)
-expr_with_of_layer (Expr-F.SetName d) given = expr.SetName d
-expr_with_of_layer (Expr-F.Event c fields) given = expr.Event c (each fields given)
-expr_with_of_layer (Expr-F.Display items) given = expr.Display (each items given)
-expr_with_of_layer (Expr-F.Range a b) given = expr.Range (a given) (b given)
 expr_with_of_layer (Expr-F.Comp items gens) given = expr.Comp (each items (left_under gens given)) (gens_closed gens given)
 expr_with_of_layer (Expr-F.Product parts gens) given = expr.Product (each parts (left_under gens given)) (gens_closed gens given)
-expr_with_of_layer (Expr-F.SetOp op a b) given = expr.SetOp op (a given) (b given)
+expr_with_of_layer d given = roll-Expr (map-Expr (Open Expr) OpenGen (Open EventPart) Expr Gen EventPart (λ e. e given) (λ g. g.0 given) (λ part. part given) d)
 
 abbrev pub gen_with_of_layer : Gen-F (Open Expr) OpenGen (Open EventPart) → OpenGen
 gen_with_of_layer (Gen-F.From y s) = (λ given. generator.From y (s given), without y)
@@ -135,20 +126,15 @@ after_all [] given = given
 after_all (f ∷ fields) given = after_all fields (after f given)
 
 abbrev pub proc_with_of_layer : Proc-F (Open Proc) → Open Proc
-proc_with_of_layer Proc-F.Stop given = proc.Stop
 proc_with_of_layer (Proc-F.Prefix h fields p) given = proc.Prefix (head_with given h) (fields_with given fields) (p (after_all fields given))
 proc_with_of_layer (Proc-F.Guard c p) given = proc.Guard (expr_with given c) (p given)
 proc_with_of_layer (Proc-F.If c p q) given = proc.If (expr_with given c) (p given) (q given)
-proc_with_of_layer (Proc-F.External ps) given = proc.External (each ps given)
-proc_with_of_layer (Proc-F.Internal ps) given = proc.Internal (each ps given)
 proc_with_of_layer (Proc-F.EachExternal y s p) given = proc.EachExternal y (expr_with given s) (p (without y given))
 proc_with_of_layer (Proc-F.EachInternal y s p) given = proc.EachInternal y (expr_with given s) (p (without y given))
 proc_with_of_layer (Proc-F.Hide p s) given = proc.Hide (p given) (expr_with given s)
 proc_with_of_layer (Proc-F.Rename p pairs gens) given = proc.Rename (p given) (map (pair_with (past gens given)) pairs) (gens_with given gens)
 proc_with_of_layer (Proc-F.Call d args) given = proc.Call d (map (expr_with given) args)
-proc_with_of_layer Proc-F.Skip given = proc.Skip
-proc_with_of_layer (Proc-F.Seq p q) given = proc.Seq (p given) (q given)
-proc_with_of_layer Proc-F.Ended given = proc.Ended
+proc_with_of_layer d given = roll-Proc (map-Proc (Open Proc) Proc (λ p. p given) d)
 
 -- a process with the values in place of its free names
 abbrev pub proc_with : Given → Proc → Proc

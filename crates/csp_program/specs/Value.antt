@@ -2,7 +2,8 @@
 --
 -- An operand's kind is looked at as soon as the operand has its value. Names of definitions are worth what their bodies are, with the values of the
 -- arguments; the number of uses that may still be entered goes down by one with each. Bound names have their values in an environment.
-use Rattle.std.specs.Prelude.{ℕ, zero, suc, ◌+◌, ◌-◌, ◌*◌, ◌/◌, ◌%◌, ℤ, pos, negsuc, neg_ℤ, ◌+ℤ◌, ◌-ℤ◌, ◌*ℤ◌, int_lt, int_le, Bool, true, false, not, ◌&&◌, ◌||◌, is_none, nat_eq, nat_lt, if◌then◌else◌, Option, Some, None, Ok, Err, List, [], ◌∷◌, map, length, slice_get}
+use Rattle.std.specs.Prelude.{ℕ, zero, suc, ◌+◌, ◌-◌, ◌*◌, ◌/◌, ◌%◌, ℤ, pos, negsuc, neg_ℤ, ◌+ℤ◌, ◌-ℤ◌, ◌*ℤ◌, int_lt, int_le, Bool, true, false, not, ◌&&◌, ◌||◌, is_none, nat_eq, if◌then◌else◌, Option, Some, None, Ok, Err, List, [], ◌∷◌, ◌++◌, map, length, take, drop, slice_get}
+use Rattle.std.specs.List.{list_any}
 use Rattle.dl_limits.specs.declared.TheConstants.{GREATEST_NUMBER, MOST_BINDINGS}
 use Rattle.csp_base.specs.Prelude.{natural}
 use Rattle.csp_base.specs.declared.operators.BinOp.{BinOp}
@@ -11,9 +12,10 @@ use Rattle.csp_atoms.specs.Prelude.{same, same_kind, alike, diff_of, has_atom, i
 use Rattle.csp_atoms.specs.declared.atom.Atom.{Atom}
 use Rattle.csp_atoms.specs.declared.value.Value.{Value}
 use Rattle.csp_atoms.specs.declared.value.Value.TheVariants.{One, Many}
-use Rattle.csp_program.specs.Atoms.{added, all_added, limited, numbers_from}
+use Rattle.csp_program.specs.Atoms.{limited, numbers_from, set_with}
 use Rattle.csp_program.specs.EventTable.{events_with}
-use Rattle.csp_program.specs.Outcome.{Outcome, and_then}
+use Rattle.csp_program.specs.Lists.{joined}
+use Rattle.csp_program.specs.Outcome.{Outcome, and_then, or_fault}
 use Rattle.csp_atoms.specs.declared.atom.Atom.TheVariants as atom
 use Rattle.csp_base.specs.declared.operators.BinOp.TheVariants as op
 use Rattle.csp_program.specs.declared.expressions.Expr.{Expr, fold-Expr}
@@ -145,10 +147,9 @@ abbrev pub values_of : List Meaning → Env → Outcome (List Value)
 values_of [] env = Ok []
 values_of (e ∷ es) env = and_then (e env) (λ v. and_then (values_of es env) (λ vs. Ok (v ∷ vs)))
 
--- the set with the values of items in it, from the left
-abbrev pub items_added : List Meaning → Env → List Atom → Outcome (List Atom)
-items_added [] env atoms = Ok atoms
-items_added (e ∷ es) env atoms = and_then (e env) (λ v. and_then (as_atom v) (λ a. and_then (added atoms a) (λ more. items_added es env more)))
+-- the values of items, which are to be atoms
+abbrev pub items_in : List Meaning → Env → List (Outcome Atom)
+items_in items env = map (λ e. and_then (e env) as_atom) items
 
 -- a value that is one of a field's values
 abbrev pub in_field : List Atom → Value → Outcome Atom
@@ -179,46 +180,23 @@ abbrev pub one_event : List ℕ → Outcome ℕ
 one_event [] = Err OutsideChannel
 one_event (e ∷ es) = Ok e
 
--- the set with all events of the fronts in it
-abbrev pub fronts_added : List Channel → List Front → Env → List Atom → Outcome (List Atom)
-fronts_added channels [] env atoms = Ok atoms
-fronts_added channels (f ∷ fs) env atoms =
-    and_then (front_events channels f.channel f.fields env) (λ es. and_then (all_added atoms (map (λ e. atom.Event e) es)) (λ more. fronts_added channels fs env more))
+-- the events of fronts
+abbrev pub fronts_in : List Channel → List Front → Env → List (Outcome Atom)
+fronts_in channels fronts env = joined (map (λ f. or_fault (front_events channels f.channel f.fields env) (map (λ e. Ok (atom.Event e)))) fronts)
 
--- whether one of the fronts is of a channel that has no field sets
-abbrev pub lack_sets : List Channel → List Front → Bool
-lack_sets channels [] = false
-lack_sets channels (f ∷ fs) = is_none (sets_of (slice_get channels f.channel)) || lack_sets channels fs
+-- All bindings of a list of generators, values rising: each set and condition is evaluated under the names before it. A fault stands in its place.
+abbrev pub bindings_of : List Turn → Env → List (Outcome Env)
+bindings_of [] env = Ok env ∷ []
+bindings_of (from x s ∷ turns) env = or_fault (and_then (s env) as_set) (λ atoms. joined (map (λ a. bindings_of turns ((x, One a) ∷ env)) atoms))
+bindings_of (when c ∷ turns) env = or_fault (and_then (c env) as_truth) (λ b. if b then bindings_of turns env else [])
 
--- one step for each atom, in rising order
-abbrev pub over : {S : Type 0} → List Atom → (Atom → S → Outcome S) → S → Outcome S
-over [] step state = Ok state
-over (a ∷ rest) step state = and_then (step a state) (λ next. over rest step next)
+-- each binding after the first n is a fault
+unfoldable pub at_most : ℕ → List (Outcome Env) → List (Outcome Env)
+at_most n bound = take n bound ++ map (λ b. and_then b (λ env. Err SetLimit)) (drop n bound)
 
--- The bindings of a list of generators, walked in nested loops with a state: each set and condition is evaluated under the names before it.
-abbrev pub walked : {S : Type 0} → List Turn → (Env → S → Outcome S) → Env → S → Outcome S
-walked [] gather env state = gather env state
-walked (from x s ∷ turns) gather env state =
-    and_then (s env) (λ v. and_then (as_set v) (λ atoms. over atoms (λ a. walked turns gather ((x, One a) ∷ env)) state))
-walked (when c ∷ turns) gather env state =
-    and_then (c env) (λ v. and_then (as_truth v) (λ b. if b then walked turns gather env state else Ok state))
-
--- what a list of generators has gathered: how many bindings, and which atoms
-pub record Gathered : Type 0 where
-  pub bindings : ℕ
-  pub atoms : List Atom
-
--- one more binding, and what it adds
-abbrev pub gathered : (Env → List Atom → Outcome (List Atom)) → Env → Gathered → Outcome Gathered
-gathered adds env state =
-    if nat_lt state.bindings MOST_BINDINGS
-    then and_then (adds env state.atoms) (λ atoms. Ok (record { bindings = state.bindings + 1; atoms = atoms }))
-    else Err SetLimit
-
--- what all bindings add to the empty set
-abbrev pub comprehension : List Turn → (Env → List Atom → Outcome (List Atom)) → Env → Outcome Value
-comprehension turns adds env =
-    and_then (walked turns (gathered adds) env (record { bindings = 0; atoms = [] })) (λ state. Ok (Many state.atoms))
+-- what all bindings give, of at most 1,048,576
+abbrev pub under_each : {A : Type 0} → List Turn → Env → (Env → List (Outcome A)) → List (Outcome A)
+under_each turns env gives = joined (map (λ b. or_fault b gives) (at_most MOST_BINDINGS (bindings_of turns env)))
 
 -- what uses of definitions are worth
 abbrev pub Uses : Type 0
@@ -239,11 +217,12 @@ module _ (uses : Uses) (channels : List Channel) where
   meaning_of_layer (Expr-F.SetName d) env = and_then (uses d []) (λ v. many (as_set v))
   meaning_of_layer (Expr-F.Event c fields) env =
       and_then (front_events channels c fields env) (λ es. and_then (one_event es) (λ e. Ok (One (atom.Event e))))
-  meaning_of_layer (Expr-F.Display items) env = many (items_added items env [])
+  meaning_of_layer (Expr-F.Display items) env = many (set_with [] (items_in items env))
   meaning_of_layer (Expr-F.Range a b) env =
       and_then (a env) (λ v. and_then (as_number v) (λ m. and_then (b env) (λ w. and_then (as_number w) (λ n. many (range m n)))))
-  meaning_of_layer (Expr-F.Comp items turns) env = comprehension turns (items_added items) env
-  meaning_of_layer (Expr-F.Product fronts turns) env = if lack_sets channels fronts then Err Kind else comprehension turns (fronts_added channels fronts) env
+  meaning_of_layer (Expr-F.Comp items turns) env = many (set_with [] (under_each turns env (items_in items)))
+  meaning_of_layer (Expr-F.Product fronts turns) env =
+      if list_any (λ f. is_none (sets_of (slice_get channels f.channel))) fronts then Err Kind else many (set_with [] (under_each turns env (fronts_in channels fronts)))
   meaning_of_layer (Expr-F.SetOp o a b) env =
       and_then (a env) (λ v. and_then (as_set v) (λ xs. and_then (b env) (λ w. and_then (as_set w) (λ ys. many (set_binary o xs ys)))))
 
@@ -268,7 +247,7 @@ module _ (uses : Uses) (channels : List Channel) where
 abbrev pub body_value : (Expr → Meaning) → List ℕ → Body → List Value → Outcome Value
 body_value value params (body.Datum e) args = value e (bound_to params args)
 body_value value params (body.Nametype e) args = value e []
-body_value value params (body.Datatype ks) args = many (all_added [] (map (λ k. atom.Const k) ks))
+body_value value params (body.Datatype ks) args = many (set_with [] (map (λ k. Ok (atom.Const k)) ks))
 body_value _ _ _ _ = Err Kind
 
 abbrev pub def_value : (Expr → Meaning) → Option Def → List Value → Outcome Value

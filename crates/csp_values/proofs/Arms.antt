@@ -1,5 +1,5 @@
 -- What a call answers for a form, from what calls answer for its parts.
-use Rattle.csp_values.proofs.Prelude.{◌≡◌, ℕ, zero, suc, ◌+◌, ◌<◌, ◌^◌, Bool, true, false, List, [], None, Ok, Err, length, refl, ap, sym, subst, ◌∙◌, arith, ℤ, if◌then◌else◌, slice_get, Result, IsErrAnd, all_added, Outcome, and_then, Env, Gathered, bound_value, many, number, one_event, range, set_binary, as_number, as_set, sets_of, as_truth, EventPart, Expr, Expr-F, out-EventPart, ValueKind, Kind, OutsideChannel, Channel, Content, ChannelsFit, events_from, span, Atom, Value, One, BinOp, SetOp, negative, inverse, operation, named_set, a_set, gathered_set, produced, count_with, Gives, EvalFault, worth, worths, number_worth, truth_worth, atoms_worth, chosen, range_of, set_of, use_worth, with_items, event_worth, front_worth, with_front, with_fronts, one_more_binding, GivesTally, Course, GivesBinding, faulty, skipped, Walk, and_then_regroup, Tally, at_err, weaker, MOST_BINDINGS, Tells}
+use Rattle.csp_values.proofs.Prelude.{◌≡◌, ℕ, zero, suc, ◌+◌, ◌<◌, ◌^◌, Bool, true, false, List, [], None, Ok, Err, length, refl, ap, sym, subst, ◌∙◌, arith, ℤ, if◌then◌else◌, slice_get, Result, IsErrAnd, all_added, Outcome, and_then, Env, Gathered, bound_value, many, number, one_event, range, set_binary, as_number, as_set, sets_of, as_truth, EventPart, Expr, Expr-F, out-EventPart, ValueKind, Kind, OutsideChannel, Channel, Content, ChannelsFit, events_from, span, Atom, Value, One, BinOp, SetOp, negative, inverse, operation, named_set, a_set, gathered_set, produced, count_with, Gives, EvalFault, worth, worths, number_worth, truth_worth, atoms_worth, chosen, range_of, set_of, use_worth, with_items, event_worth, front_worth, with_front, with_fronts, one_more_binding, GivesTally, Course, GivesBinding, faulty, skipped, Walk, and_then_regroup, Tally, at_err, weaker, MOST_BINDINGS, Tells, set_with_items, meanings}
 use Rattle.csp_atoms.specs.declared.atom.Atom.TheVariants as atom
 use Rattle.csp_program.specs.declared.expressions.Expr.TheVariants as expr
 use Rattle.value_operators.specs.Forms as form
@@ -82,7 +82,7 @@ module _ (p : Content) (n : ℕ) (env : Env) where
 
   pub worth-Display : (items : List Expr) → worth p n env (expr.Display items) ≡ a_set (with_items p n env items [])
   unfolding worth with_items
-  worth-Display items = eq.at p n env (expr.Display items) (Expr-F.Display items) (expr.rolls-Display items)
+  worth-Display items = eq.at p n env (expr.Display items) (Expr-F.Display items) (expr.rolls-Display items) ∙ ap many (set_with_items (meanings p n items) env [])
 
   pub worth-Range : (a b : Expr) → worth p n env (expr.Range a b) ≡ range_of (number_worth p n env a) (number_worth p n env b)
   unfolding worth number_worth

@@ -1,5 +1,5 @@
 -- What each form of an expression, of a list and of generators comes to, in terms of its parts.
-use Rattle.csp_values.proofs.Prelude.{◌≡◌, ℕ, zero, suc, ◌+◌, ◌-◌, ◌<◌, ◌≤◌, Bool, true, false, cond, List, [], ◌∷◌, Some, None, Ok, Err, map, length, drop, refl, ap, sym, ◌∙◌, arith, ◌*◌, ◌||◌, is_none, nat_lt, slice_get, Option, added, all_added, row_count, Outcome, and_then, lack_sets, Env, Meaning, Turn, Front, value_of, value_within, Gathered, from, when, meaning, turn, front, meaning_of_layer, turn_of_layer, front_of_layer, uses_within, as_atom, items_added, walked, gathered, sets_of, bound_to, many, body_value, def_value, front_events, fronts_added, one_event, meanings, EventPart, Expr, fold-roll-Expr, fold-roll-Gen, fold-roll-EventPart, map-Expr, Expr-F, Gen-F, roll-Expr, out-EventPart, roll-out-EventPart, Gen, Kind, OutsideChannel, SetLimit, Content, Def, ChannelsFit, events_from, field_place, first_of, front_count, front_number, span, events_are_found, Atom, Value, One, gathered_set, nothing_yet, count_with, produced, worth, worths, use_worth, body_worth, with_items, event_worth, fields_worth, front_worth, with_front, with_fronts, yielded, one_more_binding, walk_worth, Net, Proc, MOST_BINDINGS}
+use Rattle.csp_values.proofs.Prelude.{◌≡◌, ℕ, zero, suc, ◌+◌, ◌-◌, ◌<◌, ◌≤◌, Bool, true, false, cond, List, [], ◌∷◌, Some, None, Ok, Err, map, length, drop, refl, ap, sym, ◌∙◌, arith, ◌*◌, ◌||◌, is_none, nat_lt, slice_get, Option, added, all_added, row_count, Outcome, and_then, lack_sets, Env, Meaning, Turn, Front, value_of, value_within, Gathered, from, when, meaning, turn, front, meaning_of_layer, turn_of_layer, front_of_layer, uses_within, as_atom, items_added, walked, gathered, sets_of, bound_to, many, body_value, def_value, front_events, fronts_added, one_event, meanings, EventPart, Expr, fold-roll-Expr, fold-roll-Gen, fold-roll-EventPart, map-Expr, Expr-F, Gen-F, roll-Expr, out-EventPart, roll-out-EventPart, Gen, Kind, OutsideChannel, SetLimit, Content, Def, ChannelsFit, events_from, field_place, first_of, front_count, front_number, span, events_are_found, Atom, Value, One, gathered_set, nothing_yet, count_with, produced, worth, worths, use_worth, body_worth, with_items, event_worth, fields_worth, front_worth, with_front, with_fronts, yielded, one_more_binding, walk_worth, Net, Proc, MOST_BINDINGS, items_by_loops, fronts_by_loops, set_with_atoms}
 use Rattle.csp_atoms.specs.declared.atom.Atom.TheVariants as atom
 use Rattle.csp_program.specs.declared.expressions.Expr.TheVariants as expr
 use Rattle.csp_program.specs.declared.expressions.Gen.TheVariants as generator
@@ -31,12 +31,15 @@ pub worth-Product : (p : Content) (n : ℕ) (env : Env) (parts : List EventPart)
 unfolding worth worths use_worth front_worth with_items with_fronts walk_worth
 worth-Product p n env parts gens =
     at p n env (expr.Product parts gens) (Expr-F.Product parts gens) (expr.rolls-Product parts gens) ∙
+    ap (cond (lack_sets p.channels (map (front (uses_within p n) p.channels) parts)) (Err Kind))
+    (fronts_by_loops (map (turn (uses_within p n) p.channels) gens) p.channels (map (front (uses_within p n) p.channels) parts) env) ∙
     ap (λ (t : Bool). produced t (walk_worth p n gens [] parts env nothing_yet)) (fronts_lack p n parts)
 
 pub worth-Comp : (p : Content) (n : ℕ) (env : Env) (items : List Expr) (gens : List Gen) → worth p n env (expr.Comp items gens) ≡ gathered_set (walk_worth p n gens items [] env nothing_yet)
 unfolding worth worths use_worth front_worth with_items with_fronts walk_worth
 worth-Comp p n env items gens =
     at p n env (expr.Comp items gens) (Expr-F.Comp items gens) (expr.rolls-Comp items gens) ∙
+    items_by_loops (map (turn (uses_within p n) p.channels) gens) (meanings p n items) env ∙
     (λ i. gathered_set (walked (map (turn (uses_within p n) p.channels) gens) (gathered (λ inner atoms. sym (and_then_ok (items_added (meanings p n items) inner atoms)) i)) env nothing_yet))
 
 pub worths-nil : (p : Content) (n : ℕ) (env : Env) → worths p n env [] ≡ Ok []
@@ -173,7 +176,7 @@ body-Nametype p n def args e is = ap (λ b. body_value (meaning (uses_within p n
 
 pub body-Datatype : (p : Content) (n : ℕ) (def : Def) (args : List Value) (ks : List ℕ) → def.body ≡ body.Datatype ks → body_worth p n def args ≡ many (all_added [] (map (λ k. atom.Const k) ks))
 unfolding body_worth
-body-Datatype p n def args ks is = ap (λ b. body_value (meaning (uses_within p n) p.channels) def.params b args) is
+body-Datatype p n def args ks is = ap (λ b. body_value (meaning (uses_within p n) p.channels) def.params b args) is ∙ ap many (set_with_atoms (λ k. atom.Const k) ks [])
 
 pub body-Process : (p : Content) (n : ℕ) (def : Def) (args : List Value) (q : Proc) → def.body ≡ body.Process q → body_worth p n def args ≡ Err Kind
 unfolding body_worth

@@ -10,6 +10,7 @@ pub use Rattle.csp_base.proofs.Standard.{or_parts, or_right}
 pub use Rattle.csp_base.specs.Prelude.{Tells, total}
 pub use Rattle.csp_base.specs.declared.operators.BinOp.{BinOp}
 pub use Rattle.csp_base.specs.declared.operators.SetOp.{SetOp}
+pub use Rattle.csp_program.proofs.Loops.{fronts_by_loops, items_by_loops, set_with_atoms, set_with_items}
 pub use Rattle.csp_program.proofs.Outcomes.{and_then_regroup, came_through}
 pub use Rattle.csp_program.specs.Prelude.{Env, Front, Gathered, Meaning, Outcome, Turn, added, all_added, and_then, as_atom, as_number, as_set, as_truth, body_value, bound_to, bound_value, def_value, event_table, events_with, from, front, front_events, front_of_layer, fronts_added, gathered, in_field, items_added, lack_sets, limited, many, meaning, meaning_of_layer, meanings, number, one_event, over, range, row_count, row_in, row_of, set_binary, sets_of, turn, turn_of_layer, uses_within, value_of, value_within, walked, when}
 pub use Rattle.csp_program.specs.declared.expressions.EventPart.{EventPart}

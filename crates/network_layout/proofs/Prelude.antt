@@ -32,10 +32,10 @@ pub use Rattle.network_layout.specs.declared.told.NotedFault.{NotedFault}
 pub use Rattle.network_layout.specs.declared.triple.Counted.{Counted}
 pub use Rattle.network_layout.specs.declared.walk.Operand.{Operand}
 pub use Rattle.network_trees.specs.Joint.{joint}
-pub use Rattle.network_trees.specs.NetworkOf.{Walked, each_operand, events_under, goes_on, operand_first, side_by_side, walked_node, with_value}
+pub use Rattle.network_trees.specs.NetworkOf.{Walked, each_operand, goes_on, operand_first, side_by_side, walked_node, with_value}
 unfoldable pub use Rattle.network_trees.specs.NetworkOf.{tree_within}
 pub use Rattle.network_trees.specs.declared.fault.LayoutFault.{LayoutFault}
-pub use Rattle.process_steps.specs.Needed.{all_outcomes}
+pub use Rattle.process_steps.specs.Needed.{all_outcomes, events_under}
 pub use Rattle.std.proofs.Common.{Bool, Err, List, None, Ok, Some, [], ap, append-nil, append_assoc, arith, drop, drop_of_length-le, false, get_or, if◌then◌else◌, length, refl, rules, subst, suc, sym, take, true, zero, ℕ, ◌&&◌, ◌*◌, ◌++◌, ◌+◌, ◌-◌, ◌<◌, ◌||◌, ◌∙◌, ◌∷◌, ◌≡◌, ◌≤◌}
 pub use Rattle.std.proofs.lemmas.Bool.Decides.{nat_tests}
 pub use Rattle.std.proofs.lemmas.Bool.{le-leb, leb-false, leb-true, lt-ltb}

@@ -16,7 +16,8 @@ use Rattle.csp_program.specs.declared.programs.Content.{Content}
 use Rattle.csp_program.specs.declared.programs.Def.{Def}
 use Rattle.csp_tables.specs.Network.{Component, Tree, leaves}
 use Rattle.network_trees.specs.Joint.{joint}
-use Rattle.network_trees.specs.NetworkOf.{Walked, all_events, each_operand, events_under, goes_on, nested, network_called, next_component, side_by_side, tree_within, walked_node, with_value}
+use Rattle.process_steps.specs.Prelude.{events_under}
+use Rattle.network_trees.specs.NetworkOf.{Walked, all_events, each_operand, goes_on, nested, network_called, next_component, side_by_side, tree_within, walked_node, with_value}
 use Rattle.network_trees.specs.declared.fault.LayoutFault.{LayoutFault}
 use Rattle.network_trees.specs.declared.fault.LayoutFault.TheVariants as fault
 use Rattle.network_layout.specs.declared.values.Scope.{Scope}

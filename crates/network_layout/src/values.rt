@@ -3,8 +3,7 @@
 ghost use Rattle.std.specs.Prelude.{◌≡◌, [], ◌∷◌, ◌++◌, IfOk};
 ghost use Rattle.csp_atoms.specs.Sets.{event_numbers};
 ghost use Rattle.csp_program.specs.Prelude.{Outcome, given_by, proc_with};
-ghost use Rattle.process_steps.specs.Prelude.{needed_events, set_under, value_under};
-ghost use Rattle.network_trees.specs.NetworkOf.{arguments_under, events_under, truth_under};
+ghost use Rattle.process_steps.specs.Prelude.{arguments_under, events_under, needed_events, set_under, truth_under, value_under};
 ghost use Rattle.network_layout.specs.Lays.{Needs, names_of};
 ghost use Rattle.value_operators.specs.Prelude.{env_in, Gives};
 

@@ -15,9 +15,9 @@ pub use Rattle.csp_program.specs.declared.networks.Net.TheViews.{out-Net}
 pub use Rattle.csp_tables.specs.Prelude.{Component, Operands, OperandsWellNested, Tree, WellNested, in_some_component, leaf, leaves, leaves_of_operands, none, operand, parallel}
 pub use Rattle.dl_limits.specs.declared.TheConstants.{MOST_COMPONENTS}
 pub use Rattle.network_trees.specs.Joint.{first_event, joint, lesser, odd_event}
-pub use Rattle.network_trees.specs.NetworkOf.{Walked, agreed, all_events, arguments_under, each_operand, events_under, goes_on, nested, network_called, network_of, next_component, operand_first, side_by_side, some_components, truth_under, two_operands, walked_leaf, walked_node, with_value}
+pub use Rattle.network_trees.specs.NetworkOf.{Walked, agreed, all_events, each_operand, goes_on, nested, network_called, network_of, next_component, operand_first, side_by_side, some_components, two_operands, walked_leaf, walked_node, with_value}
 unfoldable pub use Rattle.network_trees.specs.NetworkOf.{tree_within}
-pub use Rattle.process_steps.specs.Prelude.{set_under}
+pub use Rattle.process_steps.specs.Prelude.{arguments_under, events_under, set_under, truth_under}
 pub use Rattle.std.proofs.Common.{Bool, Err, List, None, Ok, Some, [], ap, arith, false, if◌then◌else◌, length, not, refl, subst, suc, sym, true, zero, ℕ, ◌&&◌, ◌++◌, ◌+◌, ◌<◌, ◌||◌, ◌∙◌, ◌∷◌, ◌≡◌, ◌≤◌}
 pub use Rattle.std.proofs.lemmas.Bool.Decides.{nat_tests}
 pub use Rattle.std.proofs.lemmas.Grind.{common_steps}

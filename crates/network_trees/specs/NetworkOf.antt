@@ -11,11 +11,10 @@
 use Rattle.std.specs.Prelude.{ℕ, zero, suc, ◌+◌, nat_lt, Bool, if◌then◌else◌, Option, Some, None, Result, Ok, Err, List, [], ◌∷◌, length, slice_get}
 use Rattle.std.specs.List.{range_with_len}
 use Rattle.dl_limits.specs.declared.TheConstants.{MOST_COMPONENTS, MOST_NETWORK_DEPTH}
-use Rattle.csp_atoms.specs.Prelude.{event_numbers}
 use Rattle.csp_atoms.specs.declared.atom.Atom.{Atom}
 use Rattle.csp_atoms.specs.declared.value.Value.{Value}
 use Rattle.csp_atoms.specs.declared.value.Value.TheVariants.{One}
-use Rattle.csp_program.specs.Prelude.{Outcome, and_then, given_by, proc_with, Env, as_truth, bound_to}
+use Rattle.csp_program.specs.Prelude.{Outcome, and_then, given_by, proc_with, Env, bound_to}
 use Rattle.csp_program.specs.declared.expressions.Expr.{Expr}
 use Rattle.csp_program.specs.declared.kinds.ValueKind.TheVariants.{Kind}
 use Rattle.csp_program.specs.declared.networks.Net.{Net}
@@ -26,7 +25,7 @@ use Rattle.csp_program.specs.declared.programs.Body.{Body}
 use Rattle.csp_program.specs.declared.programs.Content.{Content}
 use Rattle.csp_program.specs.declared.programs.Def.{Def}
 use Rattle.csp_tables.specs.Prelude.{Component, Tree, Operands, leaves, leaf, parallel, none, operand}
-use Rattle.process_steps.specs.Prelude.{all_outcomes, needed_events, set_under, value_under}
+use Rattle.process_steps.specs.Prelude.{arguments_under, events_under, set_under, truth_under}
 use Rattle.network_trees.specs.Joint.{joint, odd_event}
 use Rattle.csp_program.specs.declared.programs.Body.TheVariants as body
 use Rattle.network_trees.specs.declared.fault.LayoutFault.{LayoutFault}
@@ -59,15 +58,6 @@ abbrev pub nested : ℕ → List ℕ → Tree Proc → Walked (Tree Proc)
 nested k alphabet tree = agreed k tree (odd_event alphabet (joint (leaves tree)))
 
 -- what expressions are worth under names with their values
-abbrev pub truth_under : Content → Env → Expr → Outcome Bool
-truth_under p env c = and_then (value_under p env c) as_truth
-
-abbrev pub events_under : Content → Env → Expr → Outcome (List ℕ)
-events_under p env s = and_then (set_under p env s) (λ atoms. needed_events (event_numbers atoms))
-
-abbrev pub arguments_under : Content → Env → List Expr → Outcome (List Value)
-arguments_under p env args = all_outcomes (value_under p env) args
-
 -- the body of a definition of a network
 abbrev pub network_in : Body → Outcome Net
 network_in (body.Network n) = Ok n

@@ -7,8 +7,8 @@ use Rattle.csp_program.specs.declared.expressions.Gen.{Gen}
 use Rattle.csp_program.specs.declared.processes.Field.{Field}
 use Rattle.csp_program.specs.declared.processes.Proc.{Proc}
 use Rattle.csp_program.specs.declared.programs.Content.{Content}
-use Rattle.process_steps.specs.Needed.{arguments_in, called, events_in, set_in, truth_in}
-use Rattle.process_steps.specs.Prefix.{given_under, is_given, value_under}
+use Rattle.process_steps.specs.Needed.{arguments_under, called, events_under, truth_under}
+use Rattle.process_steps.specs.Prefix.{given_under, is_given, set_under, value_under}
 use Rattle.process_steps.specs.Renaming.{Renamed, renaming_in}
 use Rattle.process_steps.specs.Step.{each_put}
 use Rattle.csp_atoms.specs.declared.atom.Atom.{Atom}
@@ -37,19 +37,19 @@ pub data LacksNone (p : Content) : Proc → Type 0 where
   prefix : (c : ℕ) (fields : List Field) (q : Proc) (sets : List (List Atom)) →
       sets_of (slice_get p.channels c) ≡ Some sets → FieldsLackNone p sets fields [] → LacksNone p (proc.Prefix (head.Channel c) fields q)
   event : (e : ℕ) (q : Proc) → LacksNone p (proc.Prefix (head.Put (One (atom.Event e))) [] q)
-  guard_true : (c : Expr) (q : Proc) → truth_in p c ≡ Ok true → LacksNone p q → LacksNone p (proc.Guard c q)
-  guard_false : (c : Expr) (q : Proc) → truth_in p c ≡ Ok false → LacksNone p (proc.Guard c q)
-  if_true : (c : Expr) (q r : Proc) → truth_in p c ≡ Ok true → LacksNone p q → LacksNone p (proc.If c q r)
-  if_false : (c : Expr) (q r : Proc) → truth_in p c ≡ Ok false → LacksNone p r → LacksNone p (proc.If c q r)
+  guard_true : (c : Expr) (q : Proc) → truth_under p [] c ≡ Ok true → LacksNone p q → LacksNone p (proc.Guard c q)
+  guard_false : (c : Expr) (q : Proc) → truth_under p [] c ≡ Ok false → LacksNone p (proc.Guard c q)
+  if_true : (c : Expr) (q r : Proc) → truth_under p [] c ≡ Ok true → LacksNone p q → LacksNone p (proc.If c q r)
+  if_false : (c : Expr) (q r : Proc) → truth_under p [] c ≡ Ok false → LacksNone p r → LacksNone p (proc.If c q r)
   external : (qs : List Proc) → ((k : ℕ) (q : Proc) → slice_get qs k ≡ Some q → LacksNone p q) → LacksNone p (proc.External qs)
   internal : (qs : List Proc) → LacksNone p (proc.Internal qs)
-  each_external : (x : ℕ) (s : Expr) (q : Proc) (atoms : List Atom) → set_in p s ≡ Ok atoms →
+  each_external : (x : ℕ) (s : Expr) (q : Proc) (atoms : List Atom) → set_under p [] s ≡ Ok atoms →
       LacksNone p (proc.External (each_put x atoms q)) → LacksNone p (proc.EachExternal x s q)
   -- a choice of one of no processes is none
-  each_internal : (x : ℕ) (s : Expr) (q : Proc) (a : Atom) (atoms : List Atom) → set_in p s ≡ Ok (a ∷ atoms) → LacksNone p (proc.EachInternal x s q)
-  hide : (q : Proc) (s : Expr) (hidden : List ℕ) → LacksNone p q → events_in p s ≡ Ok hidden → LacksNone p (proc.Hide q s)
+  each_internal : (x : ℕ) (s : Expr) (q : Proc) (a : Atom) (atoms : List Atom) → set_under p [] s ≡ Ok (a ∷ atoms) → LacksNone p (proc.EachInternal x s q)
+  hide : (q : Proc) (s : Expr) (hidden : List ℕ) → LacksNone p q → events_under p [] s ≡ Ok hidden → LacksNone p (proc.Hide q s)
   rename : (q : Proc) (pairs : List (EventPart × EventPart)) (gens : List Gen) (renamed : List Renamed) →
       LacksNone p q → renaming_in p pairs gens ≡ Ok renamed → LacksNone p (proc.Rename q pairs gens)
   call : (d : ℕ) (args : List Expr) (vs : List Value) (q : Proc) →
-      arguments_in p args ≡ Ok vs → called (slice_get p.defs d) vs ≡ Ok q → LacksNone p (proc.Call d args)
+      arguments_under p [] args ≡ Ok vs → called (slice_get p.defs d) vs ≡ Ok q → LacksNone p (proc.Call d args)
   sequence : (q r : Proc) → LacksNone p q → LacksNone p (proc.Seq q r)

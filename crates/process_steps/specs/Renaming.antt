@@ -1,18 +1,16 @@
 -- What a renaming makes of an event. Each pair of it names, under each binding of its generators, all events that begin with the old side; such an
 -- event becomes the one that begins with the new side and has the same fields after it. One event may become several, and several one. An event
 -- that no pair names stays itself.
-use Rattle.std.specs.Prelude.{ℕ, ◌+◌, nat_eq, nat_lt, if◌then◌else◌, Option, Some, None, Ok, Err, List, [], ◌∷◌, ◌++◌, map, length, drop, slice_get}
+use Rattle.std.specs.Prelude.{ℕ, nat_eq, Option, Some, None, Ok, List, [], ◌∷◌, ◌++◌, map, length, drop, slice_get}
 use Rattle.std.specs.List.{filter}
-use Rattle.dl_limits.specs.declared.TheConstants.{MOST_BINDINGS}
-use Rattle.csp_program.specs.Prelude.{Outcome, and_then, Env, Meaning, front_events, meaning, one_event, turn, uses_within, values_of, walked}
+use Rattle.csp_program.specs.Prelude.{Outcome, and_then, Env, Meaning, front_events, joined, meaning, one_event, turn, under_each, uses_within, values_of}
 use Rattle.csp_program.specs.declared.expressions.EventPart.{EventPart, out-EventPart}
 use Rattle.csp_program.specs.declared.expressions.Expr.{Expr}
 use Rattle.csp_program.specs.declared.expressions.Gen.{Gen}
-use Rattle.csp_program.specs.declared.kinds.ValueKind.TheVariants.{SetLimit}
 use Rattle.csp_program.specs.declared.programs.Channel.{Channel}
 use Rattle.csp_program.specs.declared.programs.Content.{Content}
 use Rattle.csp_program.specs.declared.programs.EventInfo.{EventInfo}
-use Rattle.process_steps.specs.Needed.{each_joined}
+use Rattle.process_steps.specs.Needed.{all_outcomes}
 use Rattle.csp_atoms.specs.declared.value.Value.{Value}
 use Rattle.csp_atoms.specs.declared.value.Value.TheVariants.{One}
 
@@ -29,11 +27,6 @@ abbrev pub values_after : ℕ → Option EventInfo → List Value
 values_after given None = []
 values_after given (Some event) = map (λ a. One a) (drop given event.fields)
 
--- the values of a renaming's bindings, and what it has renamed so far
-pub record Gathering : Type 0 where
-  pub bindings : ℕ
-  pub renamed : List Renamed
-
 -- what expressions mean under names
 abbrev pub meanings : Content → List Expr → List Meaning
 meanings p es = map (meaning (uses_within p (length p.defs)) p.channels) es
@@ -46,24 +39,13 @@ module _ (p : Content) where
       let new = out-EventPart pair.1 in
       and_then (front_events p.channels old.channel (meanings p old.fields) env) (λ es.
       and_then (values_of (meanings p new.fields) env) (λ vs.
-      each_joined (λ k e. and_then (event_with p.channels new.channel (vs ++ values_after (length old.fields) (slice_get p.events e))) (λ d. Ok ((e, d) ∷ []))) 0 es))
+      all_outcomes (λ e. and_then (event_with p.channels new.channel (vs ++ values_after (length old.fields) (slice_get p.events e))) (λ d. Ok (e, d))) es))
 
-  -- the pairs from the left
-  abbrev pub pairs_renamed : Env → List (EventPart × EventPart) → Outcome (List Renamed)
-  pairs_renamed env pairs = each_joined (λ k pair. pair_renamed env pair) 0 pairs
-
-  -- one more binding, of at most 1,048,576
-  abbrev pub binding_renamed : List (EventPart × EventPart) → Env → Gathering → Outcome Gathering
-  binding_renamed pairs env state =
-      if nat_lt state.bindings MOST_BINDINGS
-      then and_then (pairs_renamed env pairs) (λ more. Ok (record { bindings = state.bindings + 1; renamed = state.renamed ++ more }))
-      else Err SetLimit
-
-  -- a whole renaming, or the first fault
+  -- what all pairs rename under each binding, or the first fault
   abbrev pub renaming_in : List (EventPart × EventPart) → List Gen → Outcome (List Renamed)
   renaming_in pairs gens =
-      and_then (walked (map (turn (uses_within p (length p.defs)) p.channels) gens) (binding_renamed pairs) [] (record { bindings = 0; renamed = [] })) (λ state.
-      Ok state.renamed)
+      let turns = map (turn (uses_within p (length p.defs)) p.channels) gens in
+      and_then (all_outcomes (λ o. o) (under_each turns [] (λ env. map (pair_renamed env) pairs))) (λ lists. Ok (joined lists))
 
 -- the event itself, unless there are others in its place
 abbrev pub or_itself : ℕ → List ℕ → List ℕ

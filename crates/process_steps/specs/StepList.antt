@@ -11,8 +11,8 @@ use Rattle.csp_program.specs.declared.processes.Proc.{Proc}
 use Rattle.csp_program.specs.declared.processes.Proc.TheOpen.{Proc-F}
 use Rattle.csp_program.specs.declared.processes.Proc.TheViews.{out-Proc}
 use Rattle.csp_program.specs.declared.programs.Content.{Content}
-use Rattle.process_steps.specs.Needed.{each_joined, arguments_in, called, events_in, set_in, truth_in}
-use Rattle.process_steps.specs.Ways.{event_among, of_head, sets_among, ways_to_fill}
+use Rattle.process_steps.specs.Needed.{arguments_in, called, events_in, set_in, truth_in}
+use Rattle.process_steps.specs.Ways.{each_joined, event_among, of_head, sets_among, ways_to_fill}
 use Rattle.process_steps.specs.Renaming.{Renamed, images, renaming_in}
 use Rattle.process_steps.specs.Step.{each_put}
 use Rattle.csp_program.specs.declared.processes.Proc.TheVariants as proc

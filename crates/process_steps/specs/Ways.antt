@@ -1,11 +1,10 @@
 -- All ways to fill the fields of a prefix as a list, or the first fault: fields from the left, values in rising order.
-use Rattle.std.specs.Prelude.{ℕ, if◌then◌else◌, Option, Some, None, Ok, Err, List, [], ◌∷◌, ◌++◌, slice_get}
+use Rattle.std.specs.Prelude.{ℕ, ◌+◌, if◌then◌else◌, Option, Some, None, Ok, Err, List, [], ◌∷◌, ◌++◌, slice_get}
 use Rattle.csp_program.specs.Prelude.{Outcome, and_then, Env, in_field, sets_of}
 use Rattle.csp_program.specs.declared.kinds.ValueKind.TheVariants.{Kind, OutsideChannel}
 use Rattle.csp_program.specs.declared.processes.Field.{Field}
 use Rattle.csp_program.specs.declared.processes.Head.{Head}
 use Rattle.csp_program.specs.declared.programs.Content.{Content}
-use Rattle.process_steps.specs.Needed.{each_joined}
 use Rattle.process_steps.specs.Prefix.{event_of, given_under, is_given, value_under}
 use Rattle.csp_atoms.specs.declared.atom.Atom.{Atom}
 use Rattle.csp_atoms.specs.declared.value.Value.{Value}
@@ -13,6 +12,11 @@ use Rattle.csp_atoms.specs.declared.value.Value.TheVariants.{One}
 use Rattle.csp_atoms.specs.declared.atom.Atom.TheVariants as atom
 use Rattle.csp_program.specs.declared.processes.Field.TheVariants as field
 use Rattle.csp_program.specs.declared.processes.Head.TheVariants as head
+
+-- The lists that the members of a list come to, one after another, from the left. The first of these members has the place k.
+abbrev pub each_joined : {A B : Type 0} → (ℕ → A → Outcome (List B)) → ℕ → List A → Outcome (List B)
+each_joined f k [] = Ok []
+each_joined f k (x ∷ xs) = and_then (f k x) (λ ys. and_then (each_joined f (k + 1) xs) (λ more. Ok (ys ++ more)))
 
 -- what the event of a prefix is among: those of a channel, or one event alone
 pub data Among : Type 0 where

@@ -1,5 +1,5 @@
 -- What a pair of a renaming renames under an environment, from what its sides come to.
-use Rattle.step_values.proofs.Prelude.{◌≡◌, ℕ, zero, suc, ◌+◌, ◌<◌, ◌≤◌, ◌^◌, Some, Ok, Err, List, [], ◌∷◌, ◌++◌, length, take, drop, slice_get, refl, ap, sym, subst, ◌∙◌, arith, event_table, IsInOrder, Outcome, and_then, Env, meanings, sets_of, EventPart, out-EventPart, Expr, Content, Value, fronts_of, same_count, front_worth, worths, each_joined, Renamed, pair_renamed, new_event, pair_walked, renamed_as, number_fits, program_fits, first_of, span, EventInfo, front_fits, event_with, values_after, has_sets, table_from_sets, count_with}
+use Rattle.step_values.proofs.Prelude.{◌≡◌, ℕ, zero, suc, ◌+◌, ◌<◌, ◌≤◌, ◌^◌, Some, Ok, Err, List, [], ◌∷◌, ◌++◌, length, take, drop, slice_get, refl, ap, sym, subst, ◌∙◌, arith, event_table, IsInOrder, Outcome, and_then, Env, meanings, sets_of, EventPart, out-EventPart, Expr, Content, Value, fronts_of, same_count, front_worth, worths, each_joined, Renamed, pair_renamed, new_event, pair_walked, renamed_as, number_fits, program_fits, first_of, span, EventInfo, front_fits, event_with, values_after, has_sets, table_from_sets, count_with, all_outcomes, front_events}
 
 -- the event at a place of a list, and those after it
 there : (xs : List EventInfo) (i : ℕ) → i < length xs → (x : EventInfo) × (slice_get xs i ≡ Some x) × (drop i xs ≡ x ∷ drop (i + 1) xs)
@@ -14,6 +14,18 @@ length_taken : (n : ℕ) (xs : List EventInfo) → length (take n xs) ≤ n
 length_taken zero xs = omega arith
 length_taken (suc n) [] = omega arith
 length_taken (suc n) (x ∷ xs) = let rest = length_taken n xs in omega arith
+
+-- each event with its new one, in lists of one
+pub each_alone : (new : ℕ → Outcome ℕ) (k : ℕ) (es : List ℕ)
+    → each_joined {B = Renamed} (λ k e. and_then (new e) (λ d. Ok ((e, d) ∷ []))) k es ≡ all_outcomes (λ e. and_then (new e) (λ d. Ok (e, d))) es
+each_alone new k [] = refl
+each_alone new k (e ∷ es) = first (each_alone new (k + 1) es) (new e)
+  where
+    first : each_joined {B = Renamed} (λ k e. and_then (new e) (λ d. Ok ((e, d) ∷ []))) (k + 1) es ≡ all_outcomes (λ e. and_then (new e) (λ d. Ok (e, d))) es → (o : Outcome ℕ)
+        → and_then (and_then o (λ d. Ok ((e, d) ∷ []))) (λ ys. and_then (each_joined {B = Renamed} (λ k e. and_then (new e) (λ d. Ok ((e, d) ∷ []))) (k + 1) es) (λ more. Ok (ys ++ more))) ≡
+        and_then (and_then o (λ d. Ok (e, d))) (λ y. and_then (all_outcomes (λ e. and_then (new e) (λ d. Ok (e, d))) es) (λ ys. Ok (y ∷ ys)))
+    first rest (Ok d) = λ i. and_then (rest i) (λ more. Ok ((e, d) ∷ more))
+    first rest (Err fault) = refl
 
 -- events by their places, and as they stand one after another
 one_by_one : (new : List Value → Outcome ℕ) (after : List Value → List Value) (events : List EventInfo) (given j first count : ℕ) → first + count ≤ length events
@@ -85,5 +97,8 @@ module _ (p : Content) (ordered : IsInOrder p) where
     unfolding pair_walked worths
     pair_is =
         with_front (worths p (length p.defs) env (out-EventPart pair.1).fields) (front_worth p (length p.defs) env (out-EventPart pair.0).channel (out-EventPart pair.0).fields) refl ∙
-        ap (λ o. after (and_then o (λ es. and_then (worths p (length p.defs) env (out-EventPart pair.1).fields) (λ vs. by_number es vs))))
-        (sym (fronts_of p (length p.defs) env (out-EventPart pair.0).channel (out-EventPart pair.0).fields (program_fits p ordered)))
+        (ap (λ o. after (and_then o (λ es. and_then (worths p (length p.defs) env (out-EventPart pair.1).fields) (λ vs. by_number es vs))))
+        (sym (fronts_of p (length p.defs) env (out-EventPart pair.0).channel (out-EventPart pair.0).fields (program_fits p ordered))) ∙
+        (λ i. after (and_then (front_events p.channels (out-EventPart pair.0).channel (meanings p (length p.defs) (out-EventPart pair.0).fields) env)
+        (λ es. and_then (worths p (length p.defs) env (out-EventPart pair.1).fields) (λ vs.
+        each_alone (λ e. event_with p.channels (out-EventPart pair.1).channel (vs ++ values_after given (slice_get p.events e))) 0 es i)))))

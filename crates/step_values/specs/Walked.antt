@@ -1,14 +1,15 @@
 -- What a renaming comes to as it is evaluated, for the contracts of the functions that do so.
-use Rattle.std.specs.Prelude.{◌≡◌, ◌++◌, ℕ, Result, Ok, Err, List, [], ◌∷◌, map, drop, length, slice_get, take}
+use Rattle.std.specs.Prelude.{◌≡◌, ◌++◌, ◌+◌, ℕ, nat_lt, if◌then◌else◌, Result, Ok, Err, List, [], ◌∷◌, map, drop, length, slice_get, take}
+use Rattle.dl_limits.specs.declared.TheConstants.{MOST_BINDINGS}
 use Rattle.csp_program.specs.Prelude.{Outcome, and_then, Env, sets_of, turn, uses_within, walked}
 use Rattle.csp_program.specs.declared.expressions.EventPart.{EventPart, out-EventPart}
 use Rattle.csp_program.specs.declared.expressions.Expr.{Expr}
 use Rattle.csp_program.specs.declared.expressions.Gen.{Gen}
-use Rattle.csp_program.specs.declared.kinds.ValueKind.TheVariants.{Kind}
+use Rattle.csp_program.specs.declared.kinds.ValueKind.TheVariants.{Kind, SetLimit}
 use Rattle.csp_program.specs.declared.programs.Content.{Content}
 use Rattle.csp_program.specs.declared.programs.EventInfo.{EventInfo}
 use Rattle.csp_values.specs.Worth.{front_worth, worths}
-use Rattle.process_steps.specs.Prelude.{each_joined, Gathering, Renamed, binding_renamed, event_with}
+use Rattle.process_steps.specs.Prelude.{each_joined, Renamed, event_with, pair_renamed}
 use Rattle.csp_atoms.specs.declared.atom.Atom.{Atom}
 use Rattle.csp_atoms.specs.declared.value.Value.{Value}
 use Rattle.csp_atoms.specs.declared.value.Value.TheVariants.{One}
@@ -16,6 +17,22 @@ use Rattle.csp_atoms.specs.declared.atom.Atom.TheVariants as atom
 use Rattle.csp_program.specs.declared.expressions.Expr.TheVariants as expr
 use Rattle.step_values.specs.declared.renaming.Tally.{Tally}
 use Rattle.value_operators.specs.Prelude.{count_with, EvalFault, IsFault}
+
+-- how many bindings a renaming has had, and what it has renamed so far
+pub record Gathering : Type 0 where
+  pub bindings : ℕ
+  pub renamed : List Renamed
+
+-- the pairs from the left
+abbrev pub pairs_renamed : Content → Env → List (EventPart × EventPart) → Outcome (List Renamed)
+pairs_renamed p env pairs = each_joined (λ k pair. pair_renamed p env pair) 0 pairs
+
+-- one more binding, of at most 1,048,576
+abbrev pub binding_renamed : Content → List (EventPart × EventPart) → Env → Gathering → Outcome Gathering
+binding_renamed p pairs env state =
+    if nat_lt state.bindings MOST_BINDINGS
+    then and_then (pairs_renamed p env pairs) (λ more. Ok (record { bindings = state.bindings + 1; renamed = state.renamed ++ more }))
+    else Err SetLimit
 
 abbrev pub gathering_of : Tally → Gathering
 gathering_of tally = record { bindings = tally.bindings; renamed = tally.renamed }

@@ -6,7 +6,7 @@ ghost use Rattle.csp_program.specs.Prelude.{IsInOrder, and_then, value_of};
 ghost use Rattle.csp_program.specs.declared.expressions.EventPart.{out-EventPart};
 ghost use Rattle.csp_program.specs.declared.expressions.Expr.TheVariants as expression;
 ghost use Rattle.csp_values.specs.Worth.{front_worth};
-ghost use Rattle.process_steps.specs.Needed.{each_joined};
+ghost use Rattle.process_steps.specs.Ways.{each_joined};
 ghost use Rattle.process_steps.specs.Renaming as meant;
 ghost use Rattle.value_operators.specs.Env.{with_bound};
 ghost use Rattle.value_operators.specs.Gives.{Gives};

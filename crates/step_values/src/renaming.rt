@@ -5,7 +5,7 @@ ghost use Rattle.csp_program.specs.Outcome.{and_then};
 ghost use Rattle.process_steps.specs.Renaming as meant;
 ghost use Rattle.value_operators.specs.Env.{with_bound};
 ghost use Rattle.value_operators.specs.Gives.{Gives};
-ghost use Rattle.step_values.specs.Walked.{gathering_of, renamed_walk, GivesTally};
+ghost use Rattle.step_values.specs.Walked.{binding_renamed, gathering_of, pairs_renamed, renamed_walk, GivesTally};
 
 use crate::renamed::{add_pair, channels_of};
 use containers::Items;
@@ -42,7 +42,7 @@ fn add_pairs(
     bound: &[(u32, Atom)],
     renamed: Items<(Event, Event)>,
 ) -> EvalResult<Items<(Event, Event)>>
-    ensures { Gives result (and_then (meant.pairs_renamed scope.now.program.now
+    ensures { Gives result (and_then (pairs_renamed scope.now.program.now
         (with_bound bound.now []) scope.now.pairs.now) (λ more. Ok (renamed ++ more))) }
 {
     // Its contract says that the program is in order.
@@ -56,7 +56,7 @@ fn add_pairs(
 
 // One more binding.
 fn gather(scope: &Scope<'_>, bound: &[(u32, Atom)], tally: Tally) -> EvalResult<Tally>
-    ensures { GivesTally result (meant.binding_renamed scope.now.program.now scope.now.pairs.now
+    ensures { GivesTally result (binding_renamed scope.now.program.now scope.now.pairs.now
         (with_bound bound.now []) (gathering_of tally)) }
 {
     let Tally { bindings, renamed } = tally;

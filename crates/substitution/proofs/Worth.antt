@@ -1,5 +1,5 @@
 -- An expression with values put in place of names is worth what it is worth where the names are bound to the values.
-use Rattle.substitution.proofs.Prelude.{◌≡◌, ℕ, Bool, true, false, cond, ◌||◌, nat_eq, Option, Some, None, Ok, Err, List, [], ◌∷◌, map, refl, ap, sym, ◌∙◌, subst, is_none, slice_get, Atom, Value, One, Many, added, all_added, events_with, Outcome, and_then, expr_with, gens_with, part_with, past, without, Given, Env, Front, Gathered, Meaning, Turn, Uses, as_atom, as_number, as_set, as_truth, binary, bound_value, front, front_events, front_of_layer, fronts_added, gathered, in_field, items_added, lack_sets, many, meaning, meaning_of_layer, one_event, over, range, row_in, row_of, set_binary, sets_of, turn, turn_of_layer, values_of, walked, EventPart, Expr, fold-roll-Expr, fold-roll-Gen, fold-roll-EventPart, map-Expr, map-Gen, Expr-F, Gen-F, EventPart-F, roll-Expr, roll-Gen, roll-EventPart, Gen, Every, ExprHas, GenHas, PartHas, each_expr, given_or, IsWithGiven, Kind, Channel}
+use Rattle.substitution.proofs.Prelude.{◌≡◌, ℕ, Bool, true, false, cond, ◌||◌, nat_eq, Option, Some, None, Ok, Err, List, [], ◌∷◌, map, refl, ap, sym, ◌∙◌, subst, is_none, slice_get, Atom, Value, One, Many, added, all_added, events_with, Outcome, and_then, expr_with, gens_with, part_with, past, without, Given, Env, Front, Gathered, Meaning, Turn, Uses, as_atom, as_number, as_set, as_truth, binary, bound_value, front, front_events, front_of_layer, fronts_added, gathered, in_field, items_added, lack_sets, many, meaning, meaning_of_layer, one_event, over, range, row_in, row_of, set_binary, sets_of, turn, turn_of_layer, values_of, walked, EventPart, Expr, fold-roll-Expr, fold-roll-Gen, fold-roll-EventPart, map-Expr, map-Gen, Expr-F, Gen-F, EventPart-F, roll-Expr, roll-Gen, roll-EventPart, Gen, Every, ExprHas, GenHas, PartHas, each_expr, given_or, IsWithGiven, Kind, Channel, items_by_loops, fronts_by_loops, set_with_items}
 use Rattle.csp_atoms.specs.declared.atom.Atom.TheVariants as atom
 use Rattle.substitution.proofs.Forms.{expr_form, expr_is, gen_form, gen_is, left_is, named_form, part_form, part_is}
 
@@ -141,16 +141,23 @@ module _ (u : Uses) (channels : List Channel) where
   form_same (Expr-F.Call d args) same given env env' r = λ i. and_then (values_same args same given env env' r i) (λ ws. u d ws)
   form_same (Expr-F.Event c fields) same given env env' r =
       λ i. and_then (front_same c fields same given env env' r i) (λ es. and_then (one_event es) (λ e. Ok (One (atom.Event e))))
-  form_same (Expr-F.Display items) same given env env' r = λ i. many (items_same items same given env env' r [] i)
+  form_same (Expr-F.Display items) same given env env' r =
+      ap many (set_with_items (map M (map (expr_with given) items)) env [] ∙ (items_same items same given env env' r [] ∙ sym (set_with_items (map M items) env' [])))
   form_same (Expr-F.Range a c) same given env env' r = λ i. and_then (same.0 given env env' r i)
       (λ w. and_then (as_number w) (λ m. and_then (same.1 given env env' r i) (λ z. and_then (as_number z) (λ n. many (range m n)))))
-  form_same (Expr-F.Comp items gens) same given env env' r = λ i. and_then
+  form_same (Expr-F.Comp items gens) same given env env' r =
+      items_by_loops (map T (gens_with given gens)) (map M (map (expr_with (past gens given)) items)) env ∙
+      ((λ i. and_then
       (gathered_same gens same.1 given env env' r (items_added (map M (map (expr_with (past gens given)) items))) (items_added (map M items)) (items_same items same.0 (past gens given)) i)
-      (λ state. Ok (Many state.atoms))
-  form_same (Expr-F.Product parts gens) same given env env' r = λ i. cond (lack_same parts same.0 (past gens given) i) (Err Kind) (and_then
+      (λ state. Ok (Many state.atoms))) ∙
+      sym (items_by_loops (map T gens) (map M items) env'))
+  form_same (Expr-F.Product parts gens) same given env env' r =
+      ap (cond (lack_sets channels (map F (map (part_with (past gens given)) parts))) (Err Kind)) (fronts_by_loops (map T (gens_with given gens)) channels (map F (map (part_with (past gens given)) parts)) env) ∙
+      ((λ i. cond (lack_same parts same.0 (past gens given) i) (Err Kind) (and_then
       (gathered_same gens same.1 given env env' r (fronts_added channels (map F (map (part_with (past gens given)) parts))) (fronts_added channels (map F parts))
       (fronts_same parts same.0 (past gens given)) i)
-      (λ state. Ok (Many state.atoms)))
+      (λ state. Ok (Many state.atoms)))) ∙
+      ap (cond (lack_sets channels (map F parts)) (Err Kind)) (sym (fronts_by_loops (map T gens) channels (map F parts) env')))
   form_same (Expr-F.SetOp o a c) same given env env' r = λ i. and_then (same.0 given env env' r i)
       (λ w. and_then (as_set w) (λ xs. and_then (same.1 given env env' r i) (λ z. and_then (as_set z) (λ ys. many (set_binary o xs ys)))))
   form_same d same given env env' r = refl

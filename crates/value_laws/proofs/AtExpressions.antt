@@ -1,5 +1,5 @@
 -- The laws of events, comprehensions and productions, at expressions.
-use Rattle.value_laws.proofs.Prelude.{◌≡◌, ℕ, Bool, true, false, cond, List, Ok, Err, sym, ◌∙◌, ap, Outcome, and_then, Env, Front, Meaning, lack_sets, one_event, Turn, front, front_events, front_of_layer, meaning, meaning_of_layer, turn, turn_of_layer, uses_within, value_within, meanings, EventPart, Expr, fold-roll-Expr, map-Expr, Expr-F, roll-Expr, Gen, Kind, Content, ComprehensionsHoldTheirItems, ProductionsHoldWhatBegins, fronts_within, turns_within, Value, One}
+use Rattle.value_laws.proofs.Prelude.{◌≡◌, ℕ, Bool, true, false, cond, List, Ok, Err, sym, ◌∙◌, ap, Outcome, and_then, Env, Front, Meaning, lack_sets, one_event, Turn, front, front_events, front_of_layer, meaning, meaning_of_layer, turn, turn_of_layer, uses_within, value_within, meanings, EventPart, Expr, fold-roll-Expr, map-Expr, Expr-F, roll-Expr, Gen, Kind, Content, ComprehensionsHoldTheirItems, ProductionsHoldWhatBegins, fronts_within, turns_within, Value, One, items_by_loops, fronts_by_loops}
 use Rattle.value_laws.proofs.Fronts.{events_held}
 use Rattle.value_laws.proofs.Walks.{items_held}
 use Rattle.csp_atoms.specs.declared.atom.Atom.TheVariants as atom
@@ -18,7 +18,8 @@ event_worth p n c fields env = form_meaning p n (expr.Event c fields) (Expr-F.Ev
 
 pub comprehensions_hold_their_items : ComprehensionsHoldTheirItems
 comprehensions_hold_their_items p n items gens env v h =
-    items_held (meanings p n items) (turns_within p n gens) env v (sym (form_meaning p n (expr.Comp items gens) (Expr-F.Comp items gens) (expr.rolls-Comp items gens) env) ∙ h)
+    items_held (meanings p n items) (turns_within p n gens) env v
+    (sym (items_by_loops (turns_within p n gens) (meanings p n items) env) ∙ (sym (form_meaning p n (expr.Comp items gens) (Expr-F.Comp items gens) (expr.rolls-Comp items gens) env) ∙ h))
 
 -- a production that has a value is one over channels that have their sets
 pub with_sets : (t : Bool) (o : Outcome Value) (v : Value) → cond t (Err Kind) o ≡ Ok v → o ≡ Ok v
@@ -28,4 +29,5 @@ with_sets false o v h = h
 pub productions_hold_what_begins : ProductionsHoldWhatBegins
 productions_hold_what_begins p ordered n parts gens env v h =
     events_held p ordered (fronts_within p n parts) (turns_within p n gens) env v
-    (with_sets (lack_sets p.channels (fronts_within p n parts)) _ v (sym (form_meaning p n (expr.Product parts gens) (Expr-F.Product parts gens) (expr.rolls-Product parts gens) env) ∙ h))
+    (sym (fronts_by_loops (turns_within p n gens) p.channels (fronts_within p n parts) env) ∙
+    with_sets (lack_sets p.channels (fronts_within p n parts)) _ v (sym (form_meaning p n (expr.Product parts gens) (Expr-F.Product parts gens) (expr.rolls-Product parts gens) env) ∙ h))

@@ -15,9 +15,10 @@ pub use Rattle.csp_base.specs.Prelude.{natural}
 pub use Rattle.csp_base.specs.declared.operators.BinOp.{BinOp}
 pub use Rattle.csp_base.specs.declared.operators.SetOp.{SetOp}
 pub use Rattle.csp_program.proofs.Forms.{Every, ExprHas, GenHas, PartHas, each_expr}
+pub use Rattle.csp_program.proofs.Loops.{fronts_by_loops, items_by_loops, set_with_atoms, set_with_items}
 pub use Rattle.csp_program.proofs.Outcomes.{came_through}
 pub use Rattle.csp_program.proofs.UsesWithin.{gen_uses, meaning_same, part_uses, value_within_same}
-pub use Rattle.csp_program.specs.Prelude.{BodyNests, DefNests, Env, Front, Gathered, IsEventTable, IsInOrder, KeepFirsts, Meaning, Names, NestsWithin, Outcome, Reaches, Turn, Uses, added, all_added, all_true, and_then, any_of, as_atom, as_number, as_set, as_truth, atom_in_order, begins, begins_with, binary, body_in_order, body_uses, body_value, bound_to, bound_value, by_use, by_way, channel_events, channel_in_order, comprehension, def_in_order, def_uses, def_value, divided, either, event_count, event_of, event_table, events_from_channel, events_with, expr_in_order, expr_in_order_of_layer, expr_uses, expr_uses_of_layer, first_event, from, front, front_events, front_of_layer, fronts_added, gathered, gen_in_order, gen_in_order_of_layer, gen_uses_of_layer, in_field, in_range, is_datum, is_field_value, is_set_name, items_added, joined, lack_sets, lacks_sets, limited, many, meaning, meaning_of_layer, meanings, nowhere, number, numbers_from, on_atoms, on_numbers, on_truths, one_event, over, part_in_order, part_in_order_of_layer, part_uses_of_layer, places_from, quotient, remainder, row_count, row_in, row_of, rows, set_binary, set_in_order, sets_in_order, sets_of, takes, truth, turn, turn_of_layer, uses_within, value_in_order, value_within, values_of, walked, when, with_fields}
+pub use Rattle.csp_program.specs.Prelude.{BodyNests, DefNests, Env, Front, Gathered, IsEventTable, IsInOrder, KeepFirsts, Meaning, Names, NestsWithin, Outcome, Reaches, Turn, Uses, added, all_added, all_true, and_then, any_of, as_atom, as_number, as_set, as_truth, atom_in_order, begins, begins_with, binary, body_in_order, body_uses, body_value, bound_to, bound_value, by_use, by_way, channel_events, channel_in_order, comprehension, def_in_order, def_uses, def_value, divided, either, event_count, event_of, event_table, events_from_channel, events_with, expr_in_order, expr_in_order_of_layer, expr_uses, expr_uses_of_layer, first_event, from, front, front_events, front_of_layer, fronts_added, gathered, gen_in_order, gen_in_order_of_layer, gen_uses_of_layer, in_field, in_range, is_datum, is_field_value, is_set_name, items_added, items_in, joined, lack_sets, lacks_sets, limited, many, meaning, meaning_of_layer, meanings, nowhere, number, numbers_from, on_atoms, on_numbers, on_truths, one_event, over, part_in_order, part_in_order_of_layer, part_uses_of_layer, places_from, quotient, remainder, row_count, row_in, row_of, rows, set_binary, set_in_order, set_with, sets_in_order, sets_of, takes, truth, turn, turn_of_layer, uses_within, value_in_order, value_within, values_of, walked, when, with_fields}
 pub use Rattle.csp_program.specs.declared.expressions.EventPart.{EventPart}
 pub use Rattle.csp_program.specs.declared.expressions.Expr.TheFolds.{fold-roll-EventPart, fold-roll-Expr, fold-roll-Gen, map-Expr, map-Gen}
 pub use Rattle.csp_program.specs.declared.expressions.Expr.TheOpen.{EventPart-F, Expr-F, Gen-F}

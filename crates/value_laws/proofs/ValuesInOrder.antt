@@ -1,5 +1,5 @@
 -- The value of an expression in order, over a program in order, is in order.
-use Rattle.value_laws.proofs.Prelude.{◌≡◌, ℕ, zero, suc, Bool, true, false, cond, ◌&&◌, not, IsTrue, Option, Some, None, Ok, Err, List, [], ◌∷◌, map, length, refl, sym, ◌∙◌, subst, inl, inr, arith, ℤ, pos, negsuc, ◌+ℤ◌, ◌<ℤ◌, ◌-ℤ◌, ◌*ℤ◌, neg_ℤ, int_lt, int_le, nat_lt, nat_eq, slice_get, false≢true, lt-ltb, or_cases, ints, length-map, slice_get_within, same_kind, AllAbove, AllOfKind, IsAtomSet, IsRising, alike, diff_of, has_atom, inter_of, is_set, union_of, Atom, Value, One, Many, has-diff_of, has-inter_of, has-union_of, IsAtomSet-filter, IsAtomSet-union_of, IsAtomSet-from, is_set-when, all_added, limited, numbers_from, IsInOrder, atom_in_order, body_in_order, def_in_order, expr_in_order, expr_in_order_of_layer, gen_in_order, gen_in_order_of_layer, is_datum, part_in_order, part_in_order_of_layer, takes, value_in_order, with_fields, all_true, Outcome, and_then, Env, Front, Meaning, Turn, Uses, as_atom, as_number, as_set, as_truth, binary, body_value, bound_to, bound_value, def_value, divided, from, front, front_of_layer, in_range, items_added, lack_sets, many, meaning, meaning_of_layer, number, on_numbers, on_truths, on_atoms, quotient, remainder, set_binary, sets_of, truth, turn, turn_of_layer, uses_within, value_within, values_of, when, event_of, EventPart, Expr, fold-roll-Expr, fold-roll-Gen, map-Expr, map-Gen, Expr-F, Gen-F, roll-Expr, roll-Gen, Gen, ValueKind, Range, Division, Kind, Body, Content, Def, BeginsWithOne, IsBinding, IsItem, HasSets, StandsAt, first_of, EnvIsInOrder, ValuesAreInOrder, is_and, is_first, is_second, Every, ExprHas, GenHas, each_expr, came_through, less_number, natural, BinOp, SetOp, one_kind}
+use Rattle.value_laws.proofs.Prelude.{◌≡◌, ℕ, zero, suc, Bool, true, false, cond, ◌&&◌, not, IsTrue, Option, Some, None, Ok, Err, List, [], ◌∷◌, map, length, refl, sym, ◌∙◌, subst, inl, inr, arith, ℤ, pos, negsuc, ◌+ℤ◌, ◌<ℤ◌, ◌-ℤ◌, ◌*ℤ◌, neg_ℤ, int_lt, int_le, nat_lt, nat_eq, slice_get, false≢true, lt-ltb, or_cases, ints, length-map, slice_get_within, same_kind, AllAbove, AllOfKind, IsAtomSet, IsRising, alike, diff_of, has_atom, inter_of, is_set, union_of, Atom, Value, One, Many, has-diff_of, has-inter_of, has-union_of, IsAtomSet-filter, IsAtomSet-union_of, IsAtomSet-from, is_set-when, all_added, limited, numbers_from, IsInOrder, atom_in_order, body_in_order, def_in_order, expr_in_order, expr_in_order_of_layer, gen_in_order, gen_in_order_of_layer, is_datum, part_in_order, part_in_order_of_layer, takes, value_in_order, with_fields, all_true, Outcome, and_then, Env, Front, Meaning, Turn, Uses, as_atom, as_number, as_set, as_truth, binary, body_value, bound_to, bound_value, def_value, divided, from, front, front_of_layer, in_range, items_added, lack_sets, many, meaning, meaning_of_layer, number, on_numbers, on_truths, on_atoms, quotient, remainder, set_binary, sets_of, truth, turn, turn_of_layer, uses_within, value_within, values_of, when, event_of, EventPart, Expr, fold-roll-Expr, fold-roll-Gen, map-Expr, map-Gen, Expr-F, Gen-F, roll-Expr, roll-Gen, Gen, ValueKind, Range, Division, Kind, Body, Content, Def, BeginsWithOne, IsBinding, IsItem, HasSets, StandsAt, first_of, EnvIsInOrder, ValuesAreInOrder, is_and, is_first, is_second, Every, ExprHas, GenHas, each_expr, came_through, less_number, natural, BinOp, SetOp, one_kind, items_by_loops, fronts_by_loops, set_with, set_with_items, set_with_atoms, items_in}
 use Rattle.csp_program.specs.Value as meant
 use Rattle.value_laws.proofs.AtExpressions.{with_sets}
 use Rattle.value_laws.proofs.EventPlaces.{event_found}
@@ -274,7 +274,7 @@ module _ (p : Content) where
 
       comp_fine : (items : List Expr) (gens : List Gen) → Every FineExpr items → Every FineGen gens → IsTrue (form_order (Expr-F.Comp items gens)) → FineMeaning (of_form (Expr-F.Comp items gens))
       comp_fine items gens fine fine_gens o env r v h =
-          let c = items_held (map M items) (map T gens) env v h in
+          let c = items_held (map M items) (map T gens) env v (sym (items_by_loops (map T gens) (map M items) env) ∙ h) in
           subst (λ (z : Value). IsTrue (value_in_order p z)) (sym c.1)
           (set_value c.0 (
             λ z m.
@@ -285,7 +285,8 @@ module _ (p : Content) where
 
       product_fine : (parts : List EventPart) (gens : List Gen) → FineMeaning (of_form (Expr-F.Product parts gens))
       product_fine parts gens env r v h =
-          let c = events_held p ordered (map F parts) (map T gens) env v (with_sets (lack_sets p.channels (map F parts)) _ v h) in
+          let found = with_sets (lack_sets p.channels (map F parts)) _ v h in
+          let c = events_held p ordered (map F parts) (map T gens) env v (sym (fronts_by_loops (map T gens) p.channels (map F parts) env) ∙ found) in
           subst (λ (z : Value). IsTrue (value_in_order p z)) (sym c.1)
           (set_value c.0 (
             λ z m.
@@ -296,9 +297,9 @@ module _ (p : Content) where
 
       display_fine : (items : List Expr) → Every FineExpr items → IsTrue (all_exprs items) → FineMeaning (of_form (Expr-F.Display items))
       display_fine items fine o env r =
-          fine_many (items_added (map M items) env [])
+          fine_many (set_with [] (items_in (map M items) env))
           (λ set h.
-          let g = items_grow (map M items) env [] set h in
+          let g = items_grow (map M items) env [] set (sym (set_with_items (map M items) env []) ∙ h) in
           (λ z m. elim ((g.1 z).0 m) [ inl n ↦ absurd (false≢true n) | inr i ↦ item_fine items fine o env r z i ], (g.0 ((tt, tt), omega arith)).0))
 
       range_fine : (a b : Expr) → FineMeaning (of_form (Expr-F.Range a b))
@@ -365,9 +366,9 @@ module _ (p : Content) where
       body_fine params (body.Nametype e) o args a = expr_fine e (is_second (nat_eq (length params) 0) (expr_in_order p e) o) [] tt
       body_fine params (body.Datatype ks) o args a =
           let known = is_second (nat_eq (length params) 0) (all_true (map (λ k. nat_lt k (length p.consts)) ks)) o in
-          fine_many (all_added [] (map (λ k. atom.Const k) ks))
+          fine_many (set_with [] (map (λ k. Ok (atom.Const k)) ks))
           (λ set h.
-          let g = all_grow [] (map (λ k. atom.Const k) ks) set h in
+          let g = all_grow [] (map (λ k. atom.Const k) ks) set (sym (set_with_atoms (λ k. atom.Const k) ks []) ∙ h) in
           (λ z m. elim ((g.1 z).0 m) [ inl n ↦ absurd (false≢true n) | inr i ↦ const_fine ks known z i ], (g.0 ((tt, tt), omega arith)).0))
       body_fine params (body.Process q) o args a = fine_err Kind
       body_fine params (body.Network n) o args a = fine_err Kind
