@@ -32,6 +32,7 @@ pub use Rattle.network_layout.specs.declared.told.NotedFault.{NotedFault}
 pub use Rattle.network_stages.proofs.Shaping.{parts_apart}
 pub use Rattle.network_stages.specs.Networks.{Network}
 pub use Rattle.network_stages.specs.Prelude.{HasSilentBound, IsApart, IsLive, IsSpelled, StaysBusy}
+pub use Rattle.network_trees.proofs.Complete.{spelled_is_walked}
 pub use Rattle.network_trees.proofs.InOrder.{network_is_tree}
 pub use Rattle.network_trees.specs.NetworkOf.{Walked, network_of}
 pub use Rattle.process_steps.specs.ComponentStep.{ProcessStep}

@@ -37,6 +37,7 @@ pub use Rattle.network_stages.proofs.Excluded.{faults_exclude_tables}
 pub use Rattle.network_stages.proofs.HeightSums.{bound_is}
 pub use Rattle.network_stages.specs.Prelude.{AreTablesOf, AreTablesWithin, CanStop, HasNoParts, HasSilentBound, HasTable, HasTables, HaveFewSets, IsApart, IsSpelled, IsTableWithin, Network, ShareEvent, StaysBusy, room_after, whole_room}
 pub use Rattle.network_stages.specs.declared.component_tables.ComponentTable.{ComponentTable}
+pub use Rattle.network_trees.proofs.Complete.{spelled_is_walked}
 pub use Rattle.network_trees.proofs.InOrder.{network_is_tree}
 pub use Rattle.network_trees.specs.NetworkOf.{network_of}
 pub use Rattle.process_steps.specs.ComponentStep.{ProcessStep}
