@@ -1,5 +1,5 @@
 -- A script has one program, and a program one network.
-use Rattle.judgement.proofs.Prelude.{◌≡◌, Ok, ap, ◌∙◌, Proc, IsProgram, Answer, resolved, Content, Tree, Script, Walked, network_of, program_resolves, EachScriptHasOneNetwork}
+use Rattle.judgement.proofs.Prelude.{◌≡◌, Ok, ap, ◌∙◌, Proc, IsProgram, Answer, resolved, Content, Tree, Script, Walked, network_of, spelled_is_walked, program_resolves, EachScriptHasOneNetwork}
 use Rattle.judgement.proofs.KindsUnique.{kinds_are_unique}
 
 same_ok : (p q : Content) (x y : Answer Content) → x ≡ y → x ≡ Ok p → y ≡ Ok q → p ≡ q
@@ -16,7 +16,8 @@ one_program script p q a b =
 pub one_network : EachScriptHasOneNetwork
 one_network script network other a b =
     let program = one_program script network.program other.program a.program b.program in
-    let tree = same_tree network.tree other.tree (network_of network.program) (network_of other.program) (ap network_of program) a.tree b.tree in
+    let tree = same_tree network.tree other.tree (network_of network.program) (network_of other.program) (ap network_of program)
+    (spelled_is_walked network.program network.tree a.tree) (spelled_is_walked other.program other.tree b.tree) in
     let programs : network ≡ record { program = other.program; tree = network.tree } = ap (λ (p : Content). record { program = p; tree = network.tree }) program in
     let trees : record { program = other.program; tree = network.tree } ≡ other = ap (λ (t : Tree Proc). record { program = other.program; tree = t }) tree in
     programs ∙ trees

@@ -39,6 +39,7 @@ pub use Rattle.network_stages.specs.Networks.{Network}
 pub use Rattle.network_stages.specs.Prelude.{AreSeatsOf, HasSilentBound, HasTables, IsApart, IsLive, IsSpelled, StaysBusy, network_at, tree_in}
 unfoldable pub use Rattle.network_stages.specs.Prelude.{tree_at}
 pub use Rattle.network_stages.specs.declared.component_tables.ComponentTable.{ComponentTable}
+pub use Rattle.network_trees.proofs.Complete.{spelled_is_walked}
 pub use Rattle.network_trees.proofs.InOrder.{network_is_tree}
 pub use Rattle.network_trees.specs.NetworkOf.{Walked, network_of}
 pub use Rattle.process_steps.specs.ComponentStep.{ProcessStep}

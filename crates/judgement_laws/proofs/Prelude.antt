@@ -34,6 +34,7 @@ pub use Rattle.network_layout.specs.Triple.{alphabets, holders}
 pub use Rattle.network_stages.proofs.Excluded.{faults_exclude_tables}
 pub use Rattle.network_stages.specs.Prelude.{AreTablesOf, AreTablesWithin, CanStop, HasNoParts, HasTable, HasTables, HaveFewSets, IsApart, IsTableWithin, Network, ShareEvent, StaysBusy, room_after, whole_room}
 pub use Rattle.network_stages.specs.declared.component_tables.ComponentTable.{ComponentTable}
+pub use Rattle.network_trees.proofs.Complete.{spelled_is_walked}
 pub use Rattle.network_trees.proofs.InOrder.{network_is_tree}
 pub use Rattle.network_trees.specs.NetworkOf.{network_of}
 pub use Rattle.process_steps.specs.ComponentStep.{ProcessStep}

@@ -35,6 +35,7 @@ unfoldable pub use Rattle.network_stages.specs.Prelude.{tree_at}
 pub use Rattle.network_stages.specs.Rows.{AreLinksBefore, AreOwners, AreRows, HasLink, IsInRow, IsRow, IsSharedBy, IsVocabulary, Precedes, any_has_event, has_event, is_part, joint, joints, link_in, owner_of, row_at}
 pub use Rattle.network_stages.specs.declared.component_tables.ComponentTable.{ComponentTable}
 pub use Rattle.network_trees.proofs.InOrder.{network_is_tree}
+pub use Rattle.network_trees.proofs.Sound.{walk_is_spelled}
 pub use Rattle.network_trees.specs.NetworkOf.{network_of}
 pub use Rattle.observed_runs.specs.Observed.{pair_at}
 pub use Rattle.process_steps.specs.ComponentStep.{ProcessStep}

@@ -24,6 +24,13 @@ few_parts network ps spelled has =
     let many = one_part_each (ProcessStep network.program) (leaves network.tree) ps has.are in
     omega (arith, few, many)
 
+-- and there is one
+pub some_parts : (network : Network) (ps : List Part) → IsSpelled network → HasParts network ps → 1 ≤ length ps
+some_parts network ps spelled has =
+    let some : 1 ≤ length (leaves network.tree) = spelled.some in
+    let many = one_part_each (ProcessStep network.program) (leaves network.tree) ps has.are in
+    omega (arith, many)
+
 -- tables that have their form have few nodes
 few_nodes : (ps : List Part) (i : ℕ) → HaveForm ps → i < length ps → length (part_at ps i).table ≤ MOST_SETS
 few_nodes [] i have below = absurd (omega arith)

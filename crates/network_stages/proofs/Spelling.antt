@@ -1,5 +1,5 @@
 -- The network that a program spells, or that it spells none.
-use Rattle.network_stages.proofs.Prelude.{◌≡◌, ◌+◌, ◌≤◌, List, Ok, inr, length, ap, ◌∙◌, sym, arith, Proc, Content, Component, Tree, leaves, Tells, Stop, AreSeatsOf, IsSpelled, Network, tree_at, tree_in, HasNoNetwork, SpellsNone, Script, AreSeats, network_of, network_is_tree, Answer, Side, IsProgram, MOST_COMPONENTS}
+use Rattle.network_stages.proofs.Prelude.{◌≡◌, ◌+◌, ◌≤◌, List, Ok, inr, length, ap, ◌∙◌, sym, arith, Proc, Content, Component, Tree, leaves, Tells, Stop, AreSeatsOf, IsSpelled, Network, tree_at, tree_in, HasNoNetwork, SpellsNone, Script, AreSeats, network_of, walk_is_spelled, network_is_tree, Answer, Side, IsProgram, MOST_COMPONENTS}
 use Rattle.csp_base.specs.declared.stop.Stop.TheVariants as stop
 
 tree_is : (p : Content) (tree : Tree Proc) → network_of p ≡ Ok tree → tree_at p ≡ tree
@@ -10,7 +10,7 @@ pub seats_of : (p : Content) (seats : List (Component Proc)) → AreSeats (netwo
 seats_of p seats laid =
     let same = tree_is p laid.tree laid.spelled in
     record {
-      spelled = laid.spelled ∙ ap Ok (sym same);
+      spelled = walk_is_spelled p (tree_at p) (laid.spelled ∙ ap Ok (sym same));
       are = laid.whole ∙ ap leaves (sym same);
     }
 

@@ -5,6 +5,7 @@ use Rattle.csp_program.specs.declared.programs.Content.{Content}
 use Rattle.csp_tables.specs.Prelude.{Live, Component, NetworkStep, Tree, leaves, none, parallel, IsSilentBound}
 use Rattle.csp_text.specs.declared.script.Script.{Script}
 use Rattle.network_trees.specs.NetworkOf.{Walked, network_of}
+use Rattle.network_trees.specs.Spelled.{IsSpelledBy}
 use Rattle.process_steps.specs.ComponentStep.{ProcessStep}
 use Rattle.script_names.specs.Program.{IsProgram}
 
@@ -15,7 +16,7 @@ pub record Network : Type 0 where
 
 -- the network is the one that its program spells
 abbrev pub IsSpelled : Network → Type 0
-IsSpelled network = network_of network.program ≡ Ok network.tree
+IsSpelled network = IsSpelledBy network.program network.tree
 
 -- the script has this network
 pub record IsNetworkOf (script : Script) (network : Network) : Type 0 where

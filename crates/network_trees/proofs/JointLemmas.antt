@@ -1,5 +1,5 @@
 -- The alphabets of components together.
-use Rattle.network_trees.proofs.Prelude.{◌≡◌, ℕ, false, not, ◌||◌, ◌&&◌, Some, None, List, [], ◌∷◌, refl, ap, sym, ◌∙◌, arith, nat_tests, common_steps, Option, has, diff_of, has-diff_of, has-union_of, in_some_component, Component, first_event, joint, lesser, odd_event}
+use Rattle.network_trees.proofs.Prelude.{◌≡◌, ℕ, Bool, true, false, not, eqb, false≢true, eq-eqb, or_left, ◌||◌, ◌&&◌, Some, None, List, [], ◌∷◌, refl, ap, sym, ◌∙◌, arith, nat_tests, common_steps, Option, has, diff_of, has-diff_of, has-union_of, in_some_component, Component, first_event, joint, lesser, odd_event}
 
 pub has-joint : {T : Type 0} (cs : List (Component T)) (e : ℕ) → has (joint cs) e ≡ in_some_component cs e
 has-joint [] e = refl
@@ -21,3 +21,20 @@ same_members xs ys h e =
     let one = none_missing xs ys e none.0 in
     let other = none_missing ys xs e none.1 in
     grind (arith, nat_tests)
+
+-- no event is the first of a set that has none
+first_none : (xs : List ℕ) → ((e : ℕ) → has xs e ≡ false) → first_event xs ≡ None
+first_none [] h = refl
+first_none (x ∷ xs) h = absurd (false≢true (sym (h x) ∙ or_left (eqb x x) (has xs x) (eq-eqb x x refl)))
+
+none_apart : (xs ys : List ℕ) → ((e : ℕ) → has xs e ≡ has ys e) → (e : ℕ) → has (diff_of xs ys) e ≡ false
+none_apart xs ys same e = has-diff_of xs ys e ∙ (ap (λ b. b && not (has ys e)) (same e) ∙ never (has ys e))
+  where
+    never : (b : Bool) → (b && not b) ≡ false
+    never true = refl
+    never false = refl
+
+-- where sets have the same members, no event is odd
+pub none_odd : (xs ys : List ℕ) → ((e : ℕ) → has xs e ≡ has ys e) → odd_event xs ys ≡ None
+none_odd xs ys same =
+    ap (λ o. lesser o (first_event (diff_of ys xs))) (first_none (diff_of xs ys) (none_apart xs ys same)) ∙ first_none (diff_of ys xs) (none_apart ys xs (λ e. sym (same e)))

@@ -1,15 +1,10 @@
--- What is true of the network of a program.
-use Rattle.std.specs.Prelude.{◌≡◌, ◌≤◌, Ok, length}
-use Rattle.dl_limits.specs.declared.TheConstants.{MOST_COMPONENTS}
-use Rattle.csp_tables.specs.Prelude.{Tree, leaves, WellNested}
+-- The walk of a program's network gives a tree exactly where the program spells it within the limits. So a program spells at most one network, and none where the walk meets a fault.
+use Rattle.std.specs.Prelude.{◌≡◌, ◌↔◌, Ok}
+use Rattle.csp_tables.specs.Network.{Tree}
 use Rattle.network_trees.specs.NetworkOf.{network_of}
+use Rattle.network_trees.specs.Spelled.{IsSpelledBy}
 use Rattle.csp_program.specs.declared.processes.Proc.{Proc}
 use Rattle.csp_program.specs.declared.programs.Content.{Content}
 
--- each operand's alphabet has the events of its components
-abbrev pub NetworksAreWellNested : Type 0
-NetworksAreWellNested = (p : Content) (tree : Tree Proc) → network_of p ≡ Ok tree → WellNested tree
-
--- there are 1 to MOST_COMPONENTS components
-abbrev pub NetworksAreSmall : Type 0
-NetworksAreSmall = (p : Content) (tree : Tree Proc) → network_of p ≡ Ok tree → (1 ≤ length (leaves tree)) × (length (leaves tree) ≤ MOST_COMPONENTS)
+abbrev pub WalksMakeNetworks : Type 0
+WalksMakeNetworks = (p : Content) (tree : Tree Proc) → network_of p ≡ Ok tree ↔ IsSpelledBy p tree

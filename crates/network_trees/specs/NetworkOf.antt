@@ -1,13 +1,10 @@
--- The network that a program spells, or the first fault of the walk through it. The walk goes depth first from the left. A call of a network's
--- definition and an `if` leave no trace in the tree: a name stands for its network, without a step.
+-- The walk of a program's network: the tree that the program spells (`Spelled`), or the first fault that is met. The walk goes depth first from the left.
 --
--- What decides the doubtful cases:
--- The asserted network is no operand. All events of the program are its alphabet if it is a leaf, and nothing is compared with them.
--- Each body of a replicated parallel is an operand, with the alphabet that it has at its value.
--- A name is worth what it is bound to: a parameter the value of its argument, the name of a replicated parallel one value of its set after another.
--- An operand may be a call or an `if`: what it stands for is what counts. One that comes to a leaf has the alphabet of that leaf, since both are the
--- one that was given; so every operand can be looked at alike. One without components must have no events.
+-- What decides which fault comes first:
+-- Both alphabets of a parallel are evaluated before its operands are walked, those of a replicated one each at its turn.
+-- A component more than MOST_COMPONENTS is told where it is met, and an alphabet that differs from those of its components as soon as these are walked.
 -- A leaf is no nested node, however deep it stands. A node that stands too deep is told before anything in it is evaluated.
+-- That the network has no component is told last.
 use Rattle.std.specs.Prelude.{ℕ, zero, suc, ◌+◌, nat_lt, Bool, if◌then◌else◌, Option, Some, None, Result, Ok, Err, List, [], ◌∷◌, length, slice_get}
 use Rattle.std.specs.List.{range_with_len}
 use Rattle.dl_limits.specs.declared.TheConstants.{MOST_COMPONENTS, MOST_NETWORK_DEPTH}

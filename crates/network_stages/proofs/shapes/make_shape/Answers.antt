@@ -1,6 +1,10 @@
 use Rattle.network_stages.proofs.Prelude.{◌≤◌, List, length, sym, subst, ◌∙◌, leaves, Part, TripleDisjoint, alphabets_of, IsSpelled, Network, IsApart, MOST_COMPONENTS}
-use Rattle.network_stages.proofs.Shaping.{few_parts, is_apart, no_three, parts_apart}
+use Rattle.network_stages.proofs.Shaping.{few_parts, is_apart, no_three, parts_apart, some_parts}
 use Rattle.network_stages.proofs.shapes.make_shape.Goals as goal
+
+pub shape_of-requires-in-Ok-clause-least : goal.shape_of-requires-in-Ok-clause-least
+shape_of-requires-in-Ok-clause-least c =
+    subst (λ (ps : List Part). 1 ≤ length ps) (sym c.into_parts.ensures.parts) (some_parts c.args.parted.network _ (subst IsSpelled c.network-network.ensures c.layout.ensures.spelled) c.into_parts.ensures.are)
 
 pub shape_of-requires-in-Ok-clause-most : goal.shape_of-requires-in-Ok-clause-most
 shape_of-requires-in-Ok-clause-most c =
