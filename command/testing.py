@@ -19,7 +19,7 @@ MOST_LINES = 60
 
 class Test(NamedTuple):
     what: str
-    # from the top; PROGRAM stands for the program, STACK for the stack that it needs
+    # from the top; PROGRAM stands for the program, STACK for the stack that it needs, UNPROVED for --unproved where it is that
     command: str
 
 
@@ -33,7 +33,7 @@ TESTS = (
     Test("the worked scripts", "command/worked.py PROGRAM"),
     Test("scripts that are nested deeply", "bench/deep --stack STACK PROGRAM"),
     Test("the command's functions", "command/test PROGRAM"),
-    Test("the scripts of the pages", "docs/run PROGRAM"),
+    Test("the scripts of the pages", "docs/run UNPROVED PROGRAM"),
     Test("the examples", "examples/run PROGRAM"),
     Test("the reading order of the theorem", "docs/cited --check"),
 )
@@ -43,13 +43,13 @@ class Runs:
     """The tests that run, each in a session of its own, so that it can be ended with all that it started."""
 
     def __init__(self, program):
-        self.given = {"PROGRAM": str(program.path), "STACK": str(PROVED_STACK if program.state == PROVEN else builder.STACK)}
+        self.given = {"PROGRAM": str(program.path), "STACK": str(PROVED_STACK if program.state == PROVEN else builder.STACK), "UNPROVED": "" if program.state == PROVEN else "--unproved"}
         self.running, self.lock, self.is_over = {}, threading.Lock(), False
 
     def run(self, test):
         """Whether the test passes, what it printed, and its seconds."""
         began = time.monotonic()
-        words = [self.given.get(word, word) for word in test.command.split()]
+        words = [given for word in test.command.split() if (given := self.given.get(word, word))]
         words[0] = str(TOP / words[0])
         with self.lock:
             if self.is_over:
