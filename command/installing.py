@@ -34,10 +34,10 @@ def files_of(commands, prefix):
     yield TOP / "dlcheck", commands / "dlcheck"
     yield PROVED, prefix / "lib/dlcheck/dlcheck"
     yield PROVED_STAMP, prefix / "lib/dlcheck/proved-sources"
-    for folder, pattern, below in (("reader", "*.py", "dlcheck/reader"), ("reader", "*.[hcj]*s*", "dlcheck/reader"), ("command", "*.py", "dlcheck/command"), ("", "README.md", "doc/dlcheck"),
-                                   ("docs", "*.md", "doc/dlcheck/docs"), ("examples", "*.csp", "doc/dlcheck/examples"), ("share", "**/*", "")):
+    for folder, pattern, ends, below in (("reader", "*", {".py", ".html", ".css", ".js"}, "dlcheck/reader"), ("command", "*", {".py"}, "dlcheck/command"), ("", "README.md", {".md"}, "doc/dlcheck"),
+                                         ("docs", "*", {".md"}, "doc/dlcheck/docs"), ("examples", "*", {".csp"}, "doc/dlcheck/examples"), ("share", "**/*", None, "")):
         for file in sorted((TOP / folder).glob(pattern)):
-            if file.is_file():
+            if file.is_file() and (not ends or file.suffix in ends):
                 yield file, prefix / "share" / below / (file.relative_to(TOP / "share") if folder == "share" else file.name)
 
 

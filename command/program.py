@@ -40,12 +40,12 @@ class Program:
             self.make()
         elif self.state == UNPROVED:
             say(stamps.of_kept(self.path).said)
-        if self.state != PROVEN:
-            builder.allow_stack()
+            builder.allow_unproved()
 
     def make(self):
         if not sources.kit_command():
             raise Fault("the command rt of the Rattle kit is not on the PATH, and no program of these sources is here")
+        builder.allow_unproved()
         self.state, self.path = UNPROVED, None
         if os.environ.get(RUNS_SOURCES):
             return

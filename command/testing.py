@@ -3,11 +3,13 @@ import os, signal, subprocess, threading, time
 from concurrent.futures import FIRST_COMPLETED, ThreadPoolExecutor, wait
 from typing import NamedTuple
 
+import builder
 from console import Fault, Progress, shown, tell
 from places import TOP
 from program import PROVEN
 
-PROGRAM = "PROGRAM"
+# KiB: what the proved program has to do with
+PROVED_STACK = 2_560
 # Seconds. On four processors that do nothing else all tests together take some minutes.
 LONGEST = 1_800
 # Each test uses several processors for a part of its time.
@@ -17,7 +19,7 @@ MOST_LINES = 60
 
 class Test(NamedTuple):
     what: str
-    # from the top; PROGRAM stands for the program
+    # from the top; PROGRAM stands for the program, STACK for the stack that it needs, UNPROVED for --unproved where it is that
     command: str
 
 
@@ -29,9 +31,9 @@ TESTS = (
     Test("annotations that are proposed", "reader/test_annotate PROGRAM"),
     Test("pages in a browser", "reader/test_page PROGRAM"),
     Test("the worked scripts", "command/worked.py PROGRAM"),
-    Test("scripts that are nested deeply", "bench/deep PROGRAM"),
+    Test("scripts that are nested deeply", "bench/deep --stack STACK PROGRAM"),
     Test("the command's functions", "command/test PROGRAM"),
-    Test("the scripts of the pages", "docs/run PROGRAM"),
+    Test("the scripts of the pages", "docs/run UNPROVED PROGRAM"),
     Test("the examples", "examples/run PROGRAM"),
     Test("the reading order of the theorem", "docs/cited --check"),
 )
@@ -41,12 +43,13 @@ class Runs:
     """The tests that run, each in a session of its own, so that it can be ended with all that it started."""
 
     def __init__(self, program):
-        self.program, self.running, self.lock, self.is_over = str(program), {}, threading.Lock(), False
+        self.given = {"PROGRAM": str(program.path), "STACK": str(PROVED_STACK if program.state == PROVEN else builder.STACK), "UNPROVED": "" if program.state == PROVEN else "--unproved"}
+        self.running, self.lock, self.is_over = {}, threading.Lock(), False
 
     def run(self, test):
         """Whether the test passes, what it printed, and its seconds."""
         began = time.monotonic()
-        words = [self.program if word == PROGRAM else word for word in test.command.split()]
+        words = [given for word in test.command.split() if (given := self.given.get(word, word))]
         words[0] = str(TOP / words[0])
         with self.lock:
             if self.is_over:
@@ -91,7 +94,7 @@ def test(program):
     if not program.path:
         raise Fault("the program can't be had as a file, so it can't be tested")
     tell(f"The tests run over the {'proved' if program.state == PROVEN else 'unproved'} program, {program.path}.")
-    runs, failed = Runs(program.path), 0
+    runs, failed = Runs(program), 0
     progress = Progress(f"runs {len(TESTS)} tests, which takes some minutes")
     pool = ThreadPoolExecutor(AT_ONCE)
     try:
