@@ -55,6 +55,10 @@ class Composer:
     def use_names(self, text):
         self.needed |= {token.text for token in tokens_of(text) if token.text in self.script.definitions and token.text not in self.made}
 
+    def bound_name(self, others):
+        """A name for a generator or an input that hides none."""
+        return next(name for name in map("x{}".format, ["", *range(1, 1000)]) if name not in self.names.taken and name not in others)
+
     def fresh_call(self, name, params):
         return called(self.names.fresh(name), params)
 
@@ -104,7 +108,7 @@ class Composer:
         item = self.part(inner, [*params, first.name], None)
         counts = iter(item.events)
         events = [frozenset().union(*(next(counts) for _ in tree.items)) for _, tree in instances]
-        bound = next(name for name in map("x{}".format, ["", *range(1, 100)]) if name not in self.names.taken and name not in params and name != first.name)
+        bound = self.bound_name([*params, first.name])
         long = "{" + f"{bound} | {first.name} <- {first.source}, {bound} <- {item.alphabet}" + "}"
         alphabet = self.alphabet(f"A_{wanted or 'ROW'}", params, instances, events, long)
         self.use_names(first.source)
@@ -148,6 +152,8 @@ class Composer:
         leaves = [leaf for _, leaf in instances]
         if not any(map(self.events.renames, leaves)):
             return ""
+        if any(map(self.events.collides, leaves)):
+            raise NotKept("a name for an event that is blocked beside one that is renamed to it")
         pairs, gens = [], []
         for channel in sorted({old[0] for leaf in leaves for old in self.events.coded(leaf)}):
             tags = [self.events.tags(leaf, channel) for leaf in leaves]
@@ -169,7 +175,7 @@ class Composer:
         if count > 1 and all(own == tags[0] for own in tags) and max(sizes) == count:
             texts = [literal(column[0]) for column in columns]
             for at in (at for at, column in enumerate(columns) if len(column) > 1):
-                texts[at] = next(name for name in map("x{}".format, ["", *range(1, 100)]) if name not in self.names.taken | set(params) and name not in " ".join(gens))
+                texts[at] = self.bound_name([*params, *(gen.split(" ")[0] for gen in gens)])
                 gens.append(f"{texts[at]} <- {literal(frozenset(columns[at]))}")
             pairs.append(f"{channel} <- {'.'.join([new, *texts])}")
             return
@@ -203,7 +209,7 @@ class Composer:
             own = base if len(groups) == 1 else self.names.fresh(f"{base}_{chr(97 + number) if number < 26 else number}")
             given = params if len(groups) == 1 or len(chosen) > 1 else []
             states = [own, *(self.names.fresh(f"{own}_{state}") for state in range(1, len(graph)))]
-            lines = definitions(graph, states, given, self.events.count_of_last)
+            lines = definitions(graph, states, given, self.bound_name(params), self.events.count_of_last)
             for line in lines:
                 self.use_names(line)
             self.lines += lines

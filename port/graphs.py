@@ -133,10 +133,10 @@ def matched(label, left, terms, constant):
     return None, []
 
 
-def definitions(graph, names, params, last_values):
-    """A line for each state of an aligned graph, with the parameters that all have; `last_values` gives the number of values of a channel's last field."""
+def definitions(graph, names, params, bound, last_values):
+    """A line for each state of an aligned graph, with the parameters that all have. `bound` is a name for inputs, `last_values` gives the number of values of a
+    channel's last field."""
     lines, given = [], f"({','.join(params)})" if params else ""
-    bound = next(name for name in map("x{}".format, ["", *range(1, 100)]) if name not in params)
     for state, own in enumerate(graph):
         visible = [f"{text} -> {names[to]}{given}" for text, to in with_inputs([(*label, to) for label, to in own if label != TAU], bound, last_values)]
         silent = [names[to] + given for label, to in own if label == TAU]

@@ -101,7 +101,7 @@ class DataTexts:
         if name in context.texts:
             text = context.texts[name]
             if text is None:
-                raise NotKept(f"the value of {name}")
+                raise NotKept(f"a form for what {name} stands for here")
             self.record.is_changed = self.record.is_changed or text != name
             return text, ATOM
         if name in context.lifted:
@@ -133,7 +133,7 @@ class DataTexts:
         head, given = tree.parts
         name = head.parts[0] if head.form == "name" else None
         if name is None or name in context.texts:
-            raise NotKept("a function that is computed")
+            raise NotKept(f"a form for what {name} stands for here" if name else "a function that is computed")
         if name in ("member", "elem") and name not in context.lifted and name not in self.script.definitions:
             return self.member(given, context)
         arguments = [self.data(item, context, DOTTED) for item in given]

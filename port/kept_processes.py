@@ -33,7 +33,7 @@ class ProcessTexts(DataTexts):
 
     def process_name(self, tree, context, is_last):
         if tree.parts[0] in context.texts:
-            raise NotKept("a process as a parameter")
+            raise NotKept(f"a form for what {tree.parts[0]} stands for here")
         return self.data(tree, context, ATOM), ATOM
 
     def process_call(self, tree, context, is_last):

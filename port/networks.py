@@ -80,6 +80,8 @@ class Network:
             raise Refused("the network calls itself without end") from None
         for leaf in self.leaves:
             self.explore(leaf)
+        if isinstance(self.top, Leaf) and any(proc[0] in PARALLEL for proc in processes.stepped):
+            raise Refused("the asserted process has a parallel behind a prefix, a choice or `;`, and none at its top: let it stand at the top")
 
     def called(self, tree, bound):
         """The definition that a name or call uses, its clause that fits and the values of the names in it; None where it is none."""

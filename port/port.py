@@ -55,36 +55,35 @@ def read(file):
     return content.decode(errors="replace")
 
 
+def print_port(file):
+    text, composer = ported(read(file))
+    sys.stdout.write(text)
+    sys.stdout.flush()
+    for warning in composer.warnings:
+        told(warning)
+    return PORTED
+
+
 def main(words):
     if len(words) != 1:
         print("usage: --port SCRIPT", file=sys.stderr)
         return USAGE
     try:
-        text, composer = ported(read(words[0]))
-    except OSError as fault:
-        told(f"{words[0]} can't be read: {fault.strerror}")
-        return UNREAD
+        return print_port(words[0])
     except Refused as fault:
         told(f"not ported: {fault}")
         return REFUSED
     except RecursionError:
         told("not ported: the script nests too deeply")
         return REFUSED
-    try:
-        sys.stdout.write(text)
-        sys.stdout.flush()
     except OSError as fault:
-        told(f"the port could not be written: {fault.strerror}")
+        told(f"{fault.filename or 'the port'}: {fault.strerror}")
         return UNREAD
-    for warning in composer.warnings:
-        told(warning)
-    return PORTED
+    except Exception as fault:
+        told(f"--port failed: {type(fault).__name__}: {fault}")
+        return FAULT
 
 
 if __name__ == "__main__":
     sys.setrecursionlimit(DEEPEST)
-    try:
-        sys.exit(main(sys.argv[1:]))
-    except Exception as fault:
-        told(f"--port failed: {type(fault).__name__}: {fault}")
-        sys.exit(FAULT)
+    sys.exit(main(sys.argv[1:]))

@@ -182,6 +182,15 @@ class EventNames:
                 found.add(tuple(in_order(own[: 1 + more] for own, more in zip(new, count))))
         return next(iter(found)) if len(found) == 1 else None
 
+    def collides(self, leaf):
+        """Whether an event that the network blocks in a component would have the new name of another one."""
+        own, alphabet = self.of_leaf[leaf.index], self.alphabets[leaf.index]
+        for event in {self.channels.encode(label) for steps in leaf.steps for label, _ in steps if label != TAU and label not in own}:
+            fronts = [(event[0],), *(self.tags(leaf, event[0]) or ())]
+            if any(Dot((*front, *event[1:])) in alphabet for front in fronts):
+                return True
+        return False
+
     def takes_all(self, channel, new):
         """Whether all events of a channel can be renamed to another one."""
         return self.split.get(channel, ("",))[0] == new or (self.rows[channel] <= self.rows[new] and new not in {own for own, _ in self.split.values()})
