@@ -8,6 +8,7 @@ from network import KINDS, NOT_FOLLOWED, Network
 from outputs import pass_on, say
 from orders import about_circle, about_ends, about_order, cause_of, way_of
 from pages import language_rows, section, signs_of
+from patterns import about_readings
 from parts import about_links, about_part, about_stop
 from refusals import ABOUT as REFUSALS, about_components_differ, about_events_differ, declaration_before
 from reports import ask, table_of, told_by
@@ -22,6 +23,8 @@ ABOUT = {
     "37": about_no_set, "38": about_bound, "39": about_no_order,
 }
 COMPARED = {"41": about_events_differ, "42": about_components_differ, "43": about_outside, "44": about_refusal}
+# Answers that a network gives which another rule fits: then it is told how it reads as clients and servers.
+UNREAD = ("23", "25", "26", "28")
 # The word by which the page's section heads the part that is meant.
 KEYS = {"23": way_of, "25": cause_of, "27": answers_of}
 
@@ -84,7 +87,9 @@ def here_of(told, network, specification):
     if told.command == "livelock" and told.status == 0:
         return attempt(about_hidden, network, told)
     found = attempt(ABOUT[told.number], network, told) if told.number in ABOUT else []
-    return found + (attempt(about_tries, network) if told.rule and told.status == 1 else [])
+    if not told.rule or told.status != 1:
+        return found
+    return found + (attempt(about_readings, network, told) if told.number in UNREAD else []) + attempt(about_tries, network)
 
 
 def attempt(function, *arguments):
