@@ -75,7 +75,8 @@ class Roles:
 
     def __init__(self, network, places=None, links=None):
         self.network = network
-        self.links = network.links() if links is None else links
+        # of links that are given a part may be meant, of which no annotation speaks
+        self.links, self.minds_annotations = (network.links(), True) if links is None else (links, False)
         self.turns, self.readings, self.faults, self.chief, self.kept_waits, self.kept_events = {}, {}, {}, {}, {}, {}
         for place in range(len(self.links)) if places is None else places:
             for part in self.ends(place)[0]:
@@ -104,7 +105,7 @@ class Roles:
         for requests, answers in self.partings(place):
             for client, server in self.ends(place):
                 reading = Reading(client, server, requests, answers)
-                fault = self.noted_fault(place, reading) or self.server_fault(place, reading) or self.client_fault(place, reading)
+                fault = (self.noted_fault(place, reading) if self.minds_annotations else None) or self.server_fault(place, reading) or self.client_fault(place, reading)
                 if fault:
                     self.faults[place].append((reading, fault))
                 else:

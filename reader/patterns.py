@@ -128,6 +128,19 @@ def unread_lines(network, unread):
 # what is told beside a report
 
 
+def about_mending(network, told):
+    """26 with S3, S4 or S5: what mends the first link of the component that has no reading, whatever its annotation says."""
+    if told.number != "26" or told.condition not in ("S3", "S4", "S5") or not network.components:
+        return []
+    for link in network.links_of(told.components[0]):
+        if network.table(link.left) and network.table(link.right):
+            unread = unread_links(network, Roles(network, [0], [link]), [0])
+            lines = mended_by(network, unread[0]) if unread else []
+            if lines:
+                return ["", f"What mends the link of {network.short(link.left)} and {network.short(link.right)}: {lines[0]}", *lines[1:]]
+    return []
+
+
 def about_readings(network, told):
     """Of a network that is not proved, and that nobody annotated: how it reads as clients and servers, or what is in the way."""
     if any(note[0] == "roles" for note in network.script.notes) or not network.components or not all(network.table(part) for part in range(network.count)):

@@ -233,7 +233,7 @@ def about_clients(network, told):
     found += [f"  and so on, {len(parts)} components in all"] if len(parts) > MOST_NAMED else []
     if len(silent) == min(len(parts), MOST_NAMED):
         return found + ["  No link of it has answers: it is a ring in which things are handed on. Where fewer are under way than there is room for, it can't be stuck, which this rule",
-                        "  doesn't see: look whether `cyclic` fits, or let them go down a line and not round."]
+                        "  doesn't see: look whether `cyclic` fits, or let them go down a line and not round; or put a mailbox between two of them (docs/RULES.md, \"A mailbox\")."]
     return found + cuts(network, roles, parts)
 
 
