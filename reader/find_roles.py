@@ -7,8 +7,8 @@ from texts import listed, trace_text
 
 # Who asks and who answers on a link, by which events.
 Reading = collections.namedtuple("Reading", "client server requests answers")
-# Why a link has no reading, or not this one: the condition, and what breaks it.
-Fault = collections.namedtuple("Fault", "condition what")
+# Why a link has no reading, or not this one: the condition, what breaks it, and the events that are waited for there.
+Fault = collections.namedtuple("Fault", "condition what offer", defaults=(frozenset(),))
 MOST_TRIES = 50_000
 
 
@@ -73,9 +73,10 @@ class Turns:
 class Roles:
     """The readings of each link, and a choice of one for each of them; or the readings of a few links alone, by their places."""
 
-    def __init__(self, network, places=None):
+    def __init__(self, network, places=None, links=None):
         self.network = network
-        self.links = network.links()
+        # of links that are given a part may be meant, of which no annotation speaks
+        self.links, self.minds_annotations = (network.links(), True) if links is None else (links, False)
         self.turns, self.readings, self.faults, self.chief, self.kept_waits, self.kept_events = {}, {}, {}, {}, {}, {}
         for place in range(len(self.links)) if places is None else places:
             for part in self.ends(place)[0]:
@@ -104,13 +105,13 @@ class Roles:
         for requests, answers in self.partings(place):
             for client, server in self.ends(place):
                 reading = Reading(client, server, requests, answers)
-                fault = self.noted_fault(place, reading) or self.server_fault(place, reading) or self.client_fault(place, reading)
+                fault = (self.noted_fault(place, reading) if self.minds_annotations else None) or self.server_fault(place, reading) or self.client_fault(place, reading)
                 if fault:
                     self.faults[place].append((reading, fault))
                 else:
                     self.readings[place].append(reading)
         self.readings[place].sort(key=lambda reading: self.dislike(place, reading))
-        self.faults[place].sort(key=lambda kept: self.dislike(place, kept[0]) if kept[0] else (-1, False))
+        self.faults[place].sort(key=lambda kept: self.dislike(place, kept[0]) if kept[0] else (-1,))
 
     def ends(self, place):
         link = self.links[place]
@@ -158,7 +159,7 @@ class Roles:
         for node, offer in self.waits(reading.client) if reading.answers else ():
             if (node, 1) in turns.before and not offer >= reading.answers:
                 missing = listed(sorted(reading.answers - offer))
-                return Fault("S5", f"{self.network.short(reading.client)} after {turns.trace((node, 1))} waits for {listed(sorted(offer))} and not for {missing}")
+                return Fault("S5", f"{self.network.short(reading.client)} after {turns.trace((node, 1))} waits for {listed(sorted(offer))} and not for {missing}", offer)
         return None
 
     def noted_fault(self, place, reading):
@@ -181,7 +182,12 @@ class Roles:
         for part, weight in ((reading.client, 1), (reading.server, -1)):
             works, waits, chooses = self.manner(part, place, reading)
             seen += weight * ((2 if works and reading.answers else 0) + (2 if waits else 0) - (2 if chooses else 0))
-        return seen, reading.client > reading.server
+        return seen, self.company(reading.client, reading) - self.company(reading.server, reading), reading.client > reading.server
+
+    def company(self, part, reading):
+        """Whether an end can do something else wherever it can do a request: who is asked mostly can."""
+        nodes = [{event for event, _ in node.steps} for node in self.network.table(part).nodes]
+        return all(able - reading.requests for able in nodes if able & reading.requests)
 
     def manner(self, part, place, reading):
         """Of an end: whether it does something else between request and answer, waits for others beside the requests, and may refuse one that is possible."""

@@ -8,7 +8,8 @@ PROGRAM = {
 # What may follow a command of the reader.
 READER = {
     "--explain": ("RULE SCRIPT", "SCRIPT", "COMMAND WORDS"), "--draw": ("SCRIPT INDEX", "SCRIPT"), "--page": ("RULE SCRIPT FILE.html",),
-    "--annotate": ("roles SCRIPT", "resource SCRIPT"), "--alphabets": ("SCRIPT",),
+    "--annotate": ("roles SCRIPT", "resource SCRIPT", "--fresh roles SCRIPT", "--fresh resource SCRIPT"), "--proposals": ("SCRIPT",),
+    "--alphabets": ("SCRIPT",),
 }
 
 

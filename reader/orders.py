@@ -174,7 +174,7 @@ def about_ends(network, told):
     cause = cause_of(network, told)
     if cause == "several":
         who = ", ".join(network.short(part) for part in collectors(network, left, right))
-        return found + [f"  {who} does one event with each of several before the next with any of them: it collects."]
+        return found + [f"  {who} does one event with each of several before the next with any of them: it collects. Let one component collect and another answer (examples/barrier.csp)."]
     if cause == "handshake":
         found.append("  The link has different events at different moments: one goes there, the other comes back.")
     return found + link_reading(network, left, right)

@@ -8,6 +8,8 @@ It proves nothing. It asks the program, and passes its report and its status on 
   --draw SCRIPT                                 the components and links, for Graphviz
   --page RULE SCRIPT FILE.html                  the same in one file for a browser, with pictures, the script and steps
   --annotate roles SCRIPT, or resource SCRIPT   the script with annotations and the sets that they need, as the components' tables suggest them
+  --annotate --fresh roles SCRIPT, or resource  the same as if none of that kind were there
+  --proposals SCRIPT                            a line for each rule that proves the script with the annotations that are proposed
   --alphabets SCRIPT                            for each component the events that its text does, beside its alphabet"""
 import pathlib, signal, sys, traceback
 
@@ -21,6 +23,7 @@ COMMANDS = {
     "--draw": draw.command,
     "--page": page.command,
     "--annotate": annotate.command,
+    "--proposals": annotate.proposals,
     "--alphabets": alphabets.command,
 }
 NO_COMMAND, NOT_WRITTEN, FAILED = 3, 4, 70

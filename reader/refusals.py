@@ -5,11 +5,10 @@ from alphabets import own_alphabets
 from faults import about_count, about_end, about_growth, about_silence, about_value, holds, uses_in
 from layout import Layout
 from network import NOT_FOLLOWED
+from script import FOREIGN, RESERVED
 from texts import MOST_NAMED, listed
 from trees import Parser, written
 
-# Words that are reserved and stand for nothing here.
-UNUSED = ("external", "lambda", "module", "subtype", "timed", "transparent")
 MOST_LINES = 6
 ASSERTION = re.compile(r"^\s*assert\b(.*)$")
 
@@ -60,8 +59,11 @@ def about_slip(network, told):
         return []
     front = lines[row - 1].encode(errors="replace")[: column - 1].decode(errors="replace")
     word = re.match(r"\w*", lines[row - 1][len(front) :])[0]
-    if word in UNUSED:
-        return ["", f"{word} is a reserved word, and no name."]
+    if word in RESERVED | FOREIGN:
+        return ["", f"{word} is a reserved word, and no name" + ("; it stands for nothing here." if word in FOREIGN else ".")]
+    # `assert` takes the rest of its line, so the slip is told behind it
+    if re.search(r"\S.*\bassert\b", re.sub(r"--.*", "", next((line for line in reversed(lines[: row - 1]) if line.strip()), ""))):
+        return ["", "assert is a reserved word, and no name: it takes the rest of its line."]
     end = row - 1 if not front.strip() else next((place for place in range(row, len(lines)) if not re.match(r"\s+\S", lines[place])), len(lines))
     # of forms of CSPm that are not taken, `[>` and `[|A|>` open what nothing closes, and `{-` is a comment
     text = re.sub(r"--(?!@).*|\{-(.|\n)*|\[[>|]|\|[\]>]", "", "\n".join(declaration_before(lines[:end])))

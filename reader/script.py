@@ -11,8 +11,9 @@ PIECE = re.compile(
 FENCE = re.compile(r"\{-|-\}")
 NAME = re.compile(r"[A-Za-z][A-Za-z0-9_]*'*")
 ASSERTED = re.compile(r"\s*[A-Za-z][A-Za-z0-9_]*'*\s*(?:\(.*\)\s*)?:\s*\[\s*deadlock\s+free\s*(?:\[\s*(?:FD|F)\s*\]\s*)?\]\s*$")
-# All words that are reserved, and what each stands for: in a script here, or in the language of other checkers.
+# The words that are reserved: those of the language, and those that stand for something in the languages of other checkers alone.
 RESERVED = frozenset("and assert channel datatype diff else false if inter nametype not or then true union STOP SKIP".split())
+FOREIGN = frozenset("external include lambda let module print subtype timed transparent within".split())
 
 
 class NoScript(Exception):
