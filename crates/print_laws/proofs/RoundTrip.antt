@@ -14,7 +14,7 @@ use Rattle.print_laws.proofs.Walk.{is_special}
 use Rattle.print_laws.proofs.WalkScripts.{walk_declarations}
 
 pub well_formed : FoundTokensAreWellFormed
-well_formed text found e = found_fits text found e
+well_formed text tokens c = let found = (cut_tokens_are_found text tokens).0 c in subst WellFormed found.2 (found_fits text found.0 found.1)
 
 -- what is known along the text of a script
 
@@ -71,12 +71,9 @@ printed_cuts : (script : Script) → MadeDecls Fits FitsLine script.decls → Cu
 unfolding script_text
 printed_cuts script m = cuts_decls m
 
-pub cut_tokens_fit : FoundTokensAreWellFormed
-cut_tokens_fit text tokens c = let found = (cut_tokens_are_found text tokens).0 c in subst WellFormed found.2 (found_fits text found.0 found.1)
-
 pub printed_spells : PrintedTextSpellsTheScript
 printed_spells text tokens script e p =
-    let m = made p (cut_tokens_fit text tokens e) in
+    let m = made p (well_formed text tokens e) in
     let c = (printed_cuts script m).cuts (length (script_text script)) beginning (omega arith) in
     (script_tokens script, (cut_tokens_are_found (script_text script) (script_tokens script)).1 (c.found, c.is, c.same), declarations_text m)
 
