@@ -1,5 +1,5 @@
 -- The theorem about rankings, at the steps of a program.
-use Rattle.judgement.proofs.Prelude.{◌≡◌, ◌+◌, ◌≤◌, ℕ, List, [], ◌∷◌, Ok, refl, sym, ap, subst, ◌∙◌, arith, Content, Proc, Tree, Component, Label, leaves, Ranking, Shape, Fits, Falls, IsGoodRanking, IsGreatestSilence, IsSilentBound, IsSound, HasSilentBound, HasTables, IsApart, IsLive, IsSpelled, AreSeatsOf, Network, StaysBusy, network_at, network_of, tree_in, ComponentTable, ProcessStep, bound_is, bound_of, good_rankings_mean_live, network_is_tree, shapes_are_well_formed, shapes_behave}
+use Rattle.judgement.proofs.Prelude.{◌≡◌, ℕ, List, [], ◌∷◌, refl, sym, ap, subst, ◌∙◌, arith, Content, Proc, Tree, Component, Label, leaves, Ranking, Shape, Fits, Falls, IsGoodRanking, IsGreatestSilence, IsSilentBound, IsSound, HasSilentBound, HasTables, IsApart, IsLive, IsSpelled, AreSeatsOf, Network, StaysBusy, network_at, tree_at, tree_in, ComponentTable, ProcessStep, bound_is, bound_of, good_rankings_mean_live, network_is_tree, shapes_are_well_formed, shapes_behave}
 
 -- ---- the silent bound is one
 

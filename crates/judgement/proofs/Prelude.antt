@@ -51,7 +51,7 @@ pub use Rattle.script_names.specs.Prelude.{Answer, AreKinds, HasClass, IsKind, I
 pub use Rattle.script_names.specs.declared.kinds.Class.{Class}
 pub use Rattle.script_names.specs.declared.kinds.Kind.{Kind}
 pub use Rattle.script_names.specs.declared.kinds.End.{End}
-pub use Rattle.std.proofs.Common.{Bool, Err, IsTrue, List, None, Ok, Option, Some, Vec, [], add-one, ap, arith, false, get_or, length, map, max, refl, rules, slice_get, subst, suc, sym, take, true, zero, ℕ, ℤ, ◌*◌, ◌++◌, ◌+◌, ◌<◌, ◌^◌, ◌∙◌, ◌∷◌, ◌≡◌, ◌≤◌}
+pub use Rattle.std.proofs.Common.{Bool, Err, IsTrue, List, None, Ok, Option, Some, Vec, [], add-one, ap, arith, false, get_or, length, map, max, pos, refl, rules, slice_get, subst, suc, sym, take, true, zero, ℕ, ℤ, ◌*◌, ◌++◌, ◌+◌, ◌<◌, ◌^◌, ◌∙◌, ◌∷◌, ◌≡◌, ◌≤◌}
 pub use Rattle.std.proofs.Math.Seq.{take-suc}
 pub use Rattle.std.proofs.lemmas.List.{take_all}
 pub use Rattle.std.proofs.lemmas.Option.{none-some, same_Some, slice_get-map}

@@ -1,5 +1,5 @@
 -- A ranking with one rank and one lap fits a network of one component with one state, and it falls: nobody waits for another.
-use Rattle.std.proofs.Common.{◌≡◌, ◌≤◌, ℕ, suc, List, [], ◌∷◌, length, get_or, refl, sym, subst, ap, ◌∙◌, arith, pos}
+use Rattle.std.proofs.Common.{◌≡◌, List, [], ◌∷◌, length, get_or, refl, sym, subst, arith, pos}
 use Rattle.csp_tables.specs.Prelude.{AsMany, Falls, Fits, LapsFit, Node, Part, Ranking, RanksFit}
 use Rattle.worked_scripts.specs.Zeros.{zeros}
 

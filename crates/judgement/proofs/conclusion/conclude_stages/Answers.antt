@@ -1,4 +1,4 @@
-use Rattle.judgement.proofs.Prelude.{◌≡◌, ◌∙◌, ap, subst, sym, List, Ranking, Shape, Fits, Falls, HasSilentBound, HasTables, IsApart, IsProved, Network, StaysBusy, ProcessStep, ComponentTable, leaves, network_at, bound_of}
+use Rattle.judgement.proofs.Prelude.{◌≡◌, ◌∙◌, ap, subst, sym, Shape, Fits, Falls, HasSilentBound, HasTables, IsApart, IsProved, Network, StaysBusy, ProcessStep, leaves, network_at, bound_of}
 use Rattle.judgement.proofs.Heart.{exact, is_network_at, one_bound, seats_of}
 use Rattle.judgement.proofs.conclusion.conclude_stages.Goals as goal
 

@@ -1,4 +1,4 @@
-use Rattle.judgement.proofs.Prelude.{◌∙◌, ap, rules, subst, Network, ProcessStep, at_refusal, at_shortfall, goes_on, greatest_rank, RuleDecides, HasUntold, Notes, rankings_have_greatest_rank, passed, Tells}
+use Rattle.judgement.proofs.Prelude.{◌∙◌, ap, pos, subst, Network, ProcessStep, at_refusal, at_shortfall, goes_on, greatest_rank, node_count, RuleDecides, HasUntold, Notes, rankings_have_greatest_rank, passed, Tells}
 use Rattle.report.specs.declared.answer.Done.TheVariants as done
 use Rattle.report.specs.declared.answer.Side.TheVariants as side
 use Rattle.report.specs.declared.answer.Verdict.TheVariants as verdict
@@ -30,12 +30,15 @@ returns c =
     let apart = c.shape-shape.ensures.apart in
     let notes = c.in_ok-notes.notes in
     let ranking = c.in_ok-ranking.ranking in
-    let proved = c.proved-conclude_stages in
+    let proved = c.conclude_stages-proved in
     passed notes (subst (λ (n : Network). Notes n c.args.rule notes) c.network-network.ensures c.in_ok-notes.ensures.ok) (passed tt c.in_ok-ranking.ensures.met (record {
       bound = proved.result.bound;
       exact = proved.ensures.exact;
       live = proved.ensures.live;
       rank = greatest_rank ranking;
       greatest = rankings_have_greatest_rank (ProcessStep network.program) network.tree c.args.shaped.now.shape apart.is notes ranking c.in_ok-ranking.ensures.ranks;
-      is = ap verdict.Done (c.deadlock_free.ensures ∙ ap (λ n. done.DeadlockFree c.args.rule n _ _ _) proved.ensures.count);
+      is =
+          ap verdict.Done (
+          c.deadlock_free.ensures
+          ∙ ap (λ n. done.DeadlockFree c.args.rule n (node_count c.args.shaped.now.shape.parts) proved.result.bound (pos (greatest_rank ranking))) proved.ensures.count);
     }))

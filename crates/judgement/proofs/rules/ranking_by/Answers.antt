@@ -30,9 +30,10 @@ returns-in-Ok-clause-fits c =
 
 pub returns-in-Ok-clause-falls : goal.returns-in-Ok-clause-falls
 returns-in-Ok-clause-falls c =
-    let asked = decide-requires c in
+    let network = c.args.shaped.now.network in
+    let apart : IsApart network c.shape-shape.result.now = subst (IsApart network) (sym c.shape-shape.ensures.shape) c.shape-shape.ensures.apart in
     subst (λ (shape : Shape). Falls shape.parts c.in-Ok.ranking) c.shape-shape.ensures.shape
-    (ranks_fall c.shape-shape.result.now c.args.rule.now c.in-Ok.ranking asked.form asked.apart c.in-Ok.ensures.met c.in-Ok.ensures.ranking)
+    (ranks_fall network c.shape-shape.result.now apart c.args.rule.now c.in-Ok.ranking c.in-Ok.ensures.met c.in-Ok.ensures.ranking)
 
 pub returns-in-Err-Told-clause-told : goal.returns-in-Err-Told-clause-told
 returns-in-Err-Told-clause-told c =
