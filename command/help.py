@@ -18,7 +18,7 @@ def text():
     for command in commands():
         name = command.word if command.word != last else ""
         last = command.word
-        described.append(textwrap.fill(command.does.replace("dlcheck --draw", f"{NAME} --draw").replace("`", ""), WIDTH, initial_indent=f"{name:11}", subsequent_indent=" " * 11))
+        described.append(textwrap.fill(command.does.replace("dlcheck --draw", f"{NAME} --draw").replace("`", ""), WIDTH, initial_indent=f"{name:12}", subsequent_indent=" " * 12))
     place = [] if IS_REPOSITORY else [f"They stand in {TOP}/share/doc/dlcheck; see also man dlcheck."]
     return "\n".join([program_usage(), own_usage(), "", *described, "", PAGES, *place])
 

@@ -52,9 +52,9 @@ def sources_sum():
 
 
 def kit_command():
-    """The command of the kit that is on the PATH, as a file and no link, or nothing."""
-    found = shutil.which("rt")
-    return os.path.realpath(found) if found else ""
+    """The command of the kit that is on the PATH, as ./dlcheck finds it: a file and no link; or nothing."""
+    found = shutil.which("rt") or ""
+    return os.path.realpath(found) if os.path.islink(found) else found
 
 
 def kit_version():
@@ -72,6 +72,10 @@ def measured_seconds():
         return {}
     rows = (line.split() for line in file.read_text().splitlines() if re.match("[a-z]", line))
     return {row[0]: int(row[1]) for row in rows}
+
+
+def what_a_proof_takes():
+    return f"{minutes_left(crates_below())} minutes or more on {processors()} processors, with 2 GB of memory for each and 3 GB of disk"
 
 
 def minutes_left(crates):
