@@ -39,9 +39,10 @@ def compared(composer, text):
     stops = [any(not own for own in graph) for graph in (original, ported)]
     if stops[0] != stops[1]:
         raise Differs("one of the two networks has a deadlock")
-    if not are_equal(original, ported):
+    is_same = are_equal(reduced(original), reduced(ported))
+    if is_same is False:
         raise Differs("the networks differ as a whole")
-    return len(first), stops[0]
+    return (len(first), stops[0]) if is_same else (None, None)
 
 
 def compare_components(composer, network, ways):
@@ -66,11 +67,11 @@ def compare_components(composer, network, ways):
 
 
 def are_equal(one, other):
-    """Whether two graphs are strongly bisimilar, or else have the same traces, refusals and divergences."""
+    """Whether two graphs are strongly bisimilar, or else have the same traces, refusals and divergences; None where a normal form is too large to tell."""
     if are_bisimilar(one, other):
         return True
     first, second = normal_form(one), normal_form(other)
-    return first is not None and second is not None and are_bisimilar(first, second)
+    return None if first is None or second is None else are_bisimilar(first, second)
 
 
 def are_bisimilar(one, other):
