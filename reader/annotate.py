@@ -1,19 +1,24 @@
 """Proposes annotations for a script: who asks and who answers, or what is a resource, with the sets that this needs, found from the components' tables.
 
 It proves nothing: `check` judges the script that it prints."""
-import collections, concurrent.futures, os, pathlib, sys, tempfile
+import collections, concurrent.futures, os, pathlib, tempfile
 
 from network import KINDS, Network
+from fresh import without_annotations
+from outputs import say, send, warn
 from reports import ask, text_of
-from find_roles import Roles, named_events
+from find_roles import Roles, asked, in_order, named_events
 from script import NoScript, tokens_of
 from set_expressions import NO_VALUE, Finder, has_values
-from texts import MOST_NAMED, listed
+from patterns import mended_by, unread_lines, unread_links
+from texts import MOST_NAMED, counted, listed
 from find_resources import Uses
 
 TOP_LINE = "read from the components' tables by a program beside dlcheck. It proves nothing: judge what it prints by `check {}`"
 RULE = {kind: rule for rule, kind in KINDS.items()}
 MOST_LINKS = 4
+# How the annotations of a kind are called in a sentence.
+WORDS = {"roles": "roles", "resource": "resources"}
 # What stands behind a definition's name in the names of its sets.
 ENDINGS = {"roles": ("ASKS", "GETS", "TAKES", "GIVES"), "resource": ("ACQUIRE", "RELEASE")}
 
@@ -23,8 +28,7 @@ class NoAnnotation(Exception):
 
 
 def told(*lines):
-    for line in lines:
-        print(f"dlcheck: {line}" if not line.startswith(" ") else line, file=sys.stderr)
+    warn(*(line if line.startswith(" ") else f"dlcheck: {line}" for line in lines))
 
 
 # what the sets hold
@@ -40,7 +44,7 @@ def looked_at(network, kind):
             raise NoAnnotation(f"{network.called(part)} can stop (21): no rule takes it")
         wrong = wrong_sets(network, part, kind)
         if wrong:
-            raise NoAnnotation(f"{network.called(part)}, has an annotation that {wrong}: take it out, or mend it")
+            raise NoAnnotation(f"{network.called(part)}, has an annotation that {wrong}: take it out, or mend it, or propose anew by --annotate --fresh {kind}")
 
 
 def wrong_sets(network, part, kind):
@@ -104,14 +108,17 @@ def roles_of(network):
 def without_roles(network, found):
     """Lines on the links that have no reading, each with why."""
     bare, clash = found.untold()
-    lines = []
-    for place, faults in bare[:MOST_LINKS]:
-        link = found.links[place]
+    unread, lines = unread_links(network, found, range(len(found.links))), []
+    faults = {(found.links[place].left, found.links[place].right): own for place, own in bare}
+    for one in unread[:MOST_LINKS] if bare else ():
+        link = one.link
         lines.append(f"link {link.left} - {link.right}, {network.short(link.left)} with {network.short(link.right)}, has no reading: {listed(link.events)}")
-        for reading, fault in faults:
+        for reading, fault in faults[link.left, link.right]:
             lines.append(f"  {asked(network, reading)}: {fault.condition}, {fault.what}" if reading else f"  requests and answers in turns: {fault.condition}, {fault.what}")
-    if len(bare) > MOST_LINKS:
-        lines.append(f"and {len(bare) - MOST_LINKS} more links")
+        lines += [f"  {line}" for line in mended_by(network, one)]
+        lines += [f"  {counted(one.alike, 'more link')} alike"] if one.alike else []
+    if bare and len(unread) > MOST_LINKS:
+        lines.append(f"and {len(unread) - MOST_LINKS} more that are not alike")
     if clash:
         part, places, fault = clash
         others = [network.short(found.other(part, place)) for place in places]
@@ -119,17 +126,10 @@ def without_roles(network, found):
         for place in places:
             lines += [f"  {asked(network, reading)}, or" for reading in found.readings[place]]
         lines += [f"  {fault.condition}, {fault.what}"] if fault else []
+        for one in unread[:MOST_LINKS]:
+            told_of, *rest = unread_lines(network, one)
+            lines += [f"  more natural is: {told_of}", *(f"  {line}" for line in rest)]
     return lines or ["no choice of who asks was found that fits all links together"]
-
-
-def asked(network, reading):
-    """`USER(0) asks STORE by read.0 and gets data.0`."""
-    answers = f" and gets {in_order(network, reading.client, reading.answers)}" if reading.answers else " without answers"
-    return f"{network.short(reading.client)} asks {network.short(reading.server)} by {in_order(network, reading.client, reading.requests)}{answers}"
-
-
-def in_order(network, part, events):
-    return listed([event for event in network.alphabet(part) if event in events])
 
 
 def uses_of(network):
@@ -274,35 +274,68 @@ def network_of(program, script):
     return network, None
 
 
-def annotate(program, kind, script):
+# What comes of looking for annotations: the status, the script with them or as it is (nothing where none is proposed), and lines of standard error.
+Found = collections.namedtuple("Found", "status content lines")
+
+
+def proposal_for(program, kind, script, fresh=False):
+    """Looks for annotations of a kind; `fresh` leaves out those that are there."""
     network, refusal = network_of(program, script)
+    if not refusal and fresh and network.script:
+        with tempfile.TemporaryDirectory() as room:
+            bare = pathlib.Path(room) / "bare.csp"
+            bare.write_bytes(without_annotations(network, kind))
+            network, refusal = network_of(program, str(bare))
     if refusal:
-        sys.stdout.buffer.write(refusal.sent)
-        return refusal.status
-    told(TOP_LINE.format(RULE[kind]))
+        return Found(refusal.status, refusal.sent, [])
     if not network.components or (network.count > 1 and any(component.alphabet is None for component in network.components)):
-        told("this program can't follow the network of the script")
-        return 70
+        return Found(70, None, ["this program can't follow the network of the script"])
     try:
         looked_at(network, kind)
         if not network.links():
-            told("no two components share an event, so no annotation is needed")
-            sys.stdout.buffer.write(network.content)
-            return 0
+            return Found(0, network.content, ["no two components share an event, so no annotation is needed"])
         sets, lines, fits = roles_of(network) if kind == "roles" else uses_of(network)
         proposal = Proposal(network, kind, sets)
     except NoAnnotation as fault:
-        told(*fault.args)
-        return 1
+        return Found(1, None, list(fault.args))
     except NO_VALUE:
-        told("this program can't follow the data of the script")
-        return 70
+        return Found(70, None, ["this program can't follow the data of the script"])
     readings = [line for line in lines if line.startswith(" ")]
-    told(*readings[:MOST_NAMED], *([f"  and {len(readings) - MOST_NAMED} more"] if len(readings) > MOST_NAMED else []), *lines[len(readings) :])
-    sys.stdout.buffer.write(proposal.text())
-    return 0 if fits else 1
+    more = [f"  and {len(readings) - MOST_NAMED} more"] if len(readings) > MOST_NAMED else []
+    return Found(0 if fits else 1, proposal.text(), [*readings[:MOST_NAMED], *more, *lines[len(readings) :]])
+
+
+def annotate(program, kind, script, fresh):
+    found = proposal_for(program, kind, script, fresh)
+    if found.status != 2 and found.status != 4:
+        told(TOP_LINE.format(RULE[kind]))
+    told(*found.lines)
+    if found.content is not None:
+        send(found.content)
+    return found.status
 
 
 def command(program, words):
-    """`--annotate roles SCRIPT` or `--annotate resource SCRIPT`."""
-    return annotate(program, words[0], words[1]) if len(words) == 2 and words[0] in ENDINGS else None
+    """`--annotate roles SCRIPT` or `--annotate resource SCRIPT`; behind `--fresh` anew, whatever is annotated."""
+    fresh = words[:1] == ["--fresh"]
+    words = words[fresh:]
+    return annotate(program, words[0], words[1], fresh) if len(words) == 2 and words[0] in ENDINGS else None
+
+
+def proposals(program, words):
+    """`--proposals SCRIPT`: a line for each rule that proves the script with the annotations that are proposed for it; 0 where there is one, else 1."""
+    if len(words) != 1:
+        return None
+    network = Network(program, words[0])
+    proved = False
+    for kind, rule in RULE.items():
+        found = proposal_for(program, kind, network.file)
+        if found.status or found.content == network.content:
+            continue
+        with tempfile.TemporaryDirectory() as room:
+            noted = pathlib.Path(room) / "noted.csp"
+            noted.write_bytes(found.content)
+            if ask(program, ["check", rule, str(noted)], quiet=True).status == 0:
+                say(f"{rule}: deadlock-free with the {WORDS[kind]} that --annotate {kind} proposes")
+                proved = True
+    return 0 if proved else 1

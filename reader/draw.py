@@ -1,13 +1,10 @@
 """Pictures for Graphviz: a component's table, and the components and links of a network."""
-import re, sys
+import re
 
 from network import Network
+from outputs import pass_on, say
 from reports import ask, table_of
-from texts import TOP_LINE, listed, say
-
-
-def quoted(text):
-    return '"' + text.replace("\\", "\\\\").replace('"', '\\"') + '"'
+from texts import TOP_LINE, listed, quoted
 
 
 def draw_table(program, script, index):
@@ -15,7 +12,7 @@ def draw_table(program, script, index):
     report = ask(program, ["table", network.file, index])
     table = table_of(report)
     if not table:
-        sys.stdout.buffer.write(report.sent)
+        pass_on(report)
         return report.status
     say(f"// {TOP_LINE}", "digraph table {", "  rankdir=LR;", f"  label={quoted(network.called(int(index)))};", '  start [shape=point, label=""];', "  start -> 0;")
     for number, node in enumerate(table.nodes):
@@ -24,7 +21,7 @@ def draw_table(program, script, index):
         plain = len(node.accepts) == 1 and set(node.accepts[0]) == {event for event, _ in node.steps}
         label = str(number) if plain else f"{number}\nmay wait for\n" + "\nor ".join(offer if offer != "{none}" else "{}" for offer in offers)
         shape = "doublecircle" if [] in node.accepts else "circle" if plain else "box"
-        say(f"  {number} [shape={shape}, label={quoted(label)}];".replace("\n", "\\n"))
+        say(f"  {number} [shape={shape}, label={quoted(label)}];")
         ways = {}
         for event, to in node.steps:
             ways.setdefault(to, []).append(event)
@@ -39,7 +36,7 @@ def draw_network(program, script):
     report = ask(program, ["table", network.file, "0"])
     table = table_of(report)
     if not table:
-        sys.stdout.buffer.write(report.sent)
+        pass_on(report)
         return report.status
     say(f"// {TOP_LINE}", "graph network {", "  node [shape=box];")
     for part in range(table.count):

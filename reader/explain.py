@@ -1,28 +1,31 @@
 """What is told beside a report: what the page says of it, and what it names of the script and the network. It proves nothing."""
-import collections, re, sys
+import collections, pathlib, re
 
+from constructs import MOST_CONSTRUCTS, constructs_of
 from comparing import about_outside, about_refusal
+from forms import RULES, is_of_program, script_places
 from hidden import about_bound, about_hidden, about_no_order, about_no_set
 from network import KINDS, NOT_FOLLOWED, Network
+from outputs import pass_on, say, warn
 from orders import about_circle, about_ends, about_order, cause_of, way_of
-from pages import language_rows, section, signs_of
+from pages import language_rows, row_head, section
+from patterns import about_mending, about_readings
 from parts import about_links, about_part, about_stop
-from refusals import ABOUT as REFUSALS, about_components_differ, about_events_differ, declaration_before
+from refusals import ABOUT as REFUSALS, about_components_differ, about_events_differ
 from reports import ask, table_of, told_by
 from roles import about_clients, about_roles, answers_of
 from runs import about_run, about_tries
-from texts import MOST_NAMED, TOP_LINE, indented, say
+from texts import MOST_NAMED, TOP_LINE, indented, plain
 from uses import about_resources, about_uses
 
-# The words of each command: how many there are, and which are scripts.
-COMMANDS = {"check": (3, (2,)), "table": (3, (1,)), "show": (2, (1,)), "run": (4, (1,)), "livelock": (3, (1,)), "conform": (3, (1, 2)), "trial": (3, ())}
-RULES = ("cyclic", "client-server", "resource")
 # What is told of the answer with a number: a function of the network and of what the report tells; of two networks for the second.
 ABOUT = {
     **REFUSALS, "21": about_stop, "23": about_order, "24": about_circle, "25": about_ends, "26": about_roles, "27": about_clients, "28": about_uses, "29": about_resources,
     "37": about_no_set, "38": about_bound, "39": about_no_order,
 }
 COMPARED = {"41": about_events_differ, "42": about_components_differ, "43": about_outside, "44": about_refusal}
+# Answers that a network gives which another rule fits: then it is told how it reads as clients and servers.
+UNREAD = ("23", "25", "26", "28")
 # The word by which the page's section heads the part that is meant.
 KEYS = {"23": way_of, "25": cause_of, "27": answers_of}
 
@@ -30,22 +33,32 @@ KEYS = {"23": way_of, "25": cause_of, "27": answers_of}
 def command(program, words):
     """`--explain` with RULE SCRIPT, the words of a command, or a script alone."""
     if len(words) == 1:
-        return explain_script(program, words[0])
+        return explain_number(words[0]) if re.fullmatch(r"\d{1,2}", words[0]) and not pathlib.Path(words[0]).exists() else explain_script(program, words[0])
     if len(words) == 2 and words[0] in RULES:
         words = ["check", *words]
-    if words[:1] and words[0] in COMMANDS and len(words) == COMMANDS[words[0]][0]:
+    if is_of_program(words):
         return explain_report(program, words)
     return None
 
 
+def explain_number(number):
+    """What the page of answers says on a number, whatever script gives it."""
+    name, text = section(number)
+    if not text:
+        warn(f"dlcheck: no answer has the number {number}; {name or 'docs/ANSWERS.md'} has them all")
+        return None
+    say(f"{name} on {number}:", "", *text.splitlines())
+    return 0
+
+
 def explain_report(program, words):
-    networks = [Network(program, words[place]) for place in COMMANDS[words[0]][1]]
+    places = script_places(words)
+    networks = [Network(program, words[place]) for place in places]
     asked = list(words)
-    for place, network in zip(COMMANDS[words[0]][1], networks):
+    for place, network in zip(places, networks):
         asked[place] = network.file
     report = ask(program, asked)
-    sys.stdout.buffer.write(report.sent)
-    sys.stdout.flush()
+    pass_on(report)
     told = told_by(asked, report)
     say("", TOP_LINE, *explanation(told, *networks))
     return report.status
@@ -85,7 +98,9 @@ def here_of(told, network, specification):
     if told.command == "livelock" and told.status == 0:
         return attempt(about_hidden, network, told)
     found = attempt(ABOUT[told.number], network, told) if told.number in ABOUT else []
-    return found + (attempt(about_tries, network) if told.rule and told.status == 1 else [])
+    if not told.rule or told.status != 1:
+        return found
+    return found + (attempt(about_readings, network, told) if told.number in UNREAD else []) + attempt(about_mending, network, told) + attempt(about_tries, network)
 
 
 def attempt(function, *arguments):
@@ -137,27 +152,20 @@ def about_place(network, told):
         line, column = told.place
         # columns count bytes
         front = lines[line - 1].encode(errors="replace")[: column - 1].decode(errors="replace")
-        found += ["", f"Line {line}, column {column}:", "", "  " + lines[line - 1].replace("\t", " "), "  " + " " * len(front) + "^"]
+        found += ["", f"Line {line}, column {column}:", "", "  " + lines[line - 1].rstrip("\r").replace("\t", " "), "  " + " " * len(plain(front)) + "^"]
     if told.declaration is not None and told.declaration < len(network.shown):
         found += ["", f"{network.place(told.declaration).capitalize()}:", "", *("  " + line for line in network.text(told.declaration))]
     return found
 
 
 def about_language(network, told):
-    """The rows of the page on the language that may be about what is refused."""
-    kept = language_rows(told, signs_of(lines_near(network, told.place)), network)
-    return ["", "LANGUAGE.md, as you know it and as it is written here:", "", *kept] if kept else []
-
-
-def lines_near(network, place):
-    """The line of a slip; and where the slip is at its beginning the declaration before it, in which something was left open."""
-    if not place:
-        return []
-    lines, row, column = network.source.split("\n"), *place
-    near = lines[row - 1 : row]
-    if not near or near[0][: column - 1].strip():
-        return near
-    return [" ".join(declaration_before(lines[: row - 1])), *near]
+    """What the script has that is outside of the language, by line, and the rows of the page on the language that are about it."""
+    found = constructs_of(network.source) if told.number in ("1", "4") else []
+    kept = language_rows(told, network, {construct.row for construct in found})
+    lines = [f"  line {construct.line}, {row_head(construct.row)}: {construct.text}" for construct in found[:MOST_CONSTRUCTS]]
+    lines += [f"  and {len(found) - MOST_CONSTRUCTS} more"] if len(found) > MOST_CONSTRUCTS else []
+    listing = ["", "Outside of the language, by line:", *lines] if lines else []
+    return listing + (["", "LANGUAGE.md, as you know it and as it is written here:", "", *kept] if kept else [])
 
 
 def about_network(network, told):
@@ -179,8 +187,7 @@ def explain_script(program, script):
     first = ask(program, words)
     table = table_of(first)
     if not table:
-        sys.stdout.buffer.write(first.sent)
-        sys.stdout.flush()
+        pass_on(first)
         say("", TOP_LINE, *explanation(told_by(words, first), network))
         return first.status
     say(TOP_LINE)

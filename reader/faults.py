@@ -5,7 +5,7 @@ from script import NoScript
 from terms import terms_of
 from texts import MOST_NAMED, counted, listed
 from trees import Parser, operand, written
-from values import Event, NoValue
+from values import KINDS, Event, NoValue
 
 
 def about_value(network, told):
@@ -65,7 +65,9 @@ def annotations(script, component):
     for note in script.notes:
         if note[1] == component.name:
             for name in note[2:]:
-                script.set_of(("call", name, [("given", value) for value in component.values]), {})
+                found = script.used(("name", name), component.values)
+                if type(found) is not frozenset:
+                    raise NoValue("Kind", ("name", name), f"is {KINDS[type(found)]}, and a set is needed")
 
 
 def fault_lines(network, fault):
@@ -197,7 +199,13 @@ def about_growth(network, told):
         columns = [sorted({row[place] for row in values}, key=repr) for place in range(len(parameters))]
         ranges = ", ".join(f"{parameter} takes {len(column)}: {span(network.script, column)}" for parameter, column in zip(parameters, columns))
         found.append(f"  {name}, {network.place(network.script.names[name])}, is used with {len(values)}{more} different arguments; {ranges}")
+    found += CLAMP if found and told.number == "10" else []
     return ["", "What this component comes to, as its definitions read:", *found] if found else []
+
+
+# What mends a counter without a bound, of which a partner sees to it that it never gets far.
+CLAMP = ["  Bound what grows by its value and not by a guard, as COUNT((if n < 2 then n+1 else n)): so each request is still taken at any moment, which a server has to",
+         "  (docs/RULES.md, \"A counter that only its partners bound\"; examples/level_crossing.csp)"]
 
 
 def about_piles(network, terms):

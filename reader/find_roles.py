@@ -7,8 +7,8 @@ from texts import listed, trace_text
 
 # Who asks and who answers on a link, by which events.
 Reading = collections.namedtuple("Reading", "client server requests answers")
-# Why a link has no reading, or not this one: the condition, and what breaks it.
-Fault = collections.namedtuple("Fault", "condition what")
+# Why a link has no reading, or not this one: the condition, what breaks it, and the events that are waited for there.
+Fault = collections.namedtuple("Fault", "condition what offer", defaults=(frozenset(),))
 MOST_TRIES = 50_000
 
 
@@ -71,23 +71,31 @@ class Turns:
 
 
 class Roles:
-    """The readings of each link, and a choice of one for each of them."""
+    """The readings of each link, and a choice of one for each of them; or the readings of a few links alone, by their places."""
 
-    def __init__(self, network):
+    def __init__(self, network, places=None, links=None):
         self.network = network
-        self.links = network.links()
-        self.turns, self.readings, self.faults, self.chief = {}, {}, {}, {}
-        shared = [{event for link in network.links_of(part) for event in link.events} for part in range(network.count)]
-        # where a component waits for shared events alone: the place in its table and the events
-        self.waits = [
-            [(node, frozenset(offer)) for node, at in enumerate(network.table(part).nodes) for offer in at.accepts if offer and shared[part].issuperset(offer)]
-            for part in range(network.count)
-        ]
-        self.events = [named_events(network, part) for part in range(network.count)]
-        for place, link in enumerate(self.links):
-            for part in (link.left, link.right):
-                self.turns[part, place] = Turns(network.table(part), set(link.events))
+        # of links that are given a part may be meant, of which no annotation speaks
+        self.links, self.minds_annotations = (network.links(), True) if links is None else (links, False)
+        self.turns, self.readings, self.faults, self.chief, self.kept_waits, self.kept_events = {}, {}, {}, {}, {}, {}
+        for place in range(len(self.links)) if places is None else places:
+            for part in self.ends(place)[0]:
+                self.turns[part, place] = Turns(network.table(part), set(self.links[place].events))
             self.read(place)
+
+    def waits(self, part):
+        """Where a component waits for shared events alone: the places in its table, and the events."""
+        if part not in self.kept_waits:
+            shared = {event for link in self.network.links_of(part) for event in link.events}
+            nodes = self.network.table(part).nodes
+            self.kept_waits[part] = [(node, frozenset(offer)) for node, at in enumerate(nodes) for offer in at.accepts if offer and shared.issuperset(offer)]
+        return self.kept_waits[part]
+
+    def events(self, part):
+        """The events of a component's alphabet by their texts."""
+        if part not in self.kept_events:
+            self.kept_events[part] = named_events(self.network, part)
+        return self.kept_events[part]
 
     # readings of one link
 
@@ -97,13 +105,13 @@ class Roles:
         for requests, answers in self.partings(place):
             for client, server in self.ends(place):
                 reading = Reading(client, server, requests, answers)
-                fault = self.noted_fault(place, reading) or self.server_fault(place, reading) or self.client_fault(place, reading)
+                fault = (self.noted_fault(place, reading) if self.minds_annotations else None) or self.server_fault(place, reading) or self.client_fault(place, reading)
                 if fault:
                     self.faults[place].append((reading, fault))
                 else:
                     self.readings[place].append(reading)
         self.readings[place].sort(key=lambda reading: self.dislike(place, reading))
-        self.faults[place].sort(key=lambda kept: self.dislike(place, kept[0]) if kept[0] else (-1, False))
+        self.faults[place].sort(key=lambda kept: self.dislike(place, kept[0]) if kept[0] else (-1,))
 
     def ends(self, place):
         link = self.links[place]
@@ -137,7 +145,7 @@ class Roles:
     def server_fault(self, place, reading):
         """Whether the server is choosy about these requests, or takes them while it owes an answer."""
         turns = self.turns[reading.server, place]
-        for node, offer in self.waits[reading.server]:
+        for node, offer in self.waits(reading.server):
             if offer & reading.requests and not offer >= reading.requests:
                 missing = listed(sorted(reading.requests - offer))
                 return Fault("S4", f"{self.network.short(reading.server)} {self.after(reading.server, node)} waits for {listed(sorted(offer))} and not for {missing}")
@@ -148,10 +156,10 @@ class Roles:
     def client_fault(self, place, reading):
         """Whether the client, once it has asked, doesn't wait for every answer."""
         turns = self.turns[reading.client, place]
-        for node, offer in self.waits[reading.client] if reading.answers else ():
+        for node, offer in self.waits(reading.client) if reading.answers else ():
             if (node, 1) in turns.before and not offer >= reading.answers:
                 missing = listed(sorted(reading.answers - offer))
-                return Fault("S5", f"{self.network.short(reading.client)} after {turns.trace((node, 1))} waits for {listed(sorted(offer))} and not for {missing}")
+                return Fault("S5", f"{self.network.short(reading.client)} after {turns.trace((node, 1))} waits for {listed(sorted(offer))} and not for {missing}", offer)
         return None
 
     def noted_fault(self, place, reading):
@@ -174,21 +182,26 @@ class Roles:
         for part, weight in ((reading.client, 1), (reading.server, -1)):
             works, waits, chooses = self.manner(part, place, reading)
             seen += weight * ((2 if works and reading.answers else 0) + (2 if waits else 0) - (2 if chooses else 0))
-        return seen, reading.client > reading.server
+        return seen, self.company(reading.client, reading) - self.company(reading.server, reading), reading.client > reading.server
+
+    def company(self, part, reading):
+        """Whether an end can do something else wherever it can do a request: who is asked mostly can."""
+        nodes = [{event for event, _ in node.steps} for node in self.network.table(part).nodes]
+        return all(able - reading.requests for able in nodes if able & reading.requests)
 
     def manner(self, part, place, reading):
         """Of an end: whether it does something else between request and answer, waits for others beside the requests, and may refuse one that is possible."""
         events, table = set(self.links[place].events), self.network.table(part)
         works = any(event not in events for node in self.turns[part, place].open_nodes() for event, _ in table.nodes[node].steps)
-        waits = any(offer & reading.requests and offer - events for _, offer in self.waits[part])
-        chooses = any(not offer >= {event for event, _ in table.nodes[node].steps if event in reading.requests} for node, offer in self.waits[part])
+        waits = any(offer & reading.requests and offer - events for _, offer in self.waits(part))
+        chooses = any(not offer >= {event for event, _ in table.nodes[node].steps if event in reading.requests} for node, offer in self.waits(part))
         return works, waits, chooses
 
     # a reading for each link
 
     def takes(self, reading):
         """Where a server waits for these requests: of all links that it serves this has to be the same."""
-        return frozenset(wait for wait in self.waits[reading.server] if wait[1] & reading.requests)
+        return frozenset(wait for wait in self.waits(reading.server) if wait[1] & reading.requests)
 
     def choice(self):
         """A reading for each link, by place, and whether nobody is a client of itself by others; nothing where there is no choice."""
@@ -234,7 +247,7 @@ class Roles:
             return (str(part),)
         seen = set()
         for text in self.links[place].events:
-            event = self.events[part][text]
+            event = self.events(part)[text]
             chief = self.chief_parameters(component.name, event.channel)
             seen.add((event.channel, tuple(at is not None and component.values[at] == field for at, field in zip(chief, event.fields))))
         return (component.name, *sorted(seen))
@@ -289,6 +302,25 @@ class Roles:
                         missing = sorted((one.requests | two.requests) - offer)
                         return Fault("S4", f"{self.network.short(part)} {self.after(part, node)} waits for {listed(sorted(offer))} and not for {listed(missing)}")
         return None
+
+
+def asked(network, reading):
+    """`USER(0) asks STORE by read.0 and gets data.0`."""
+    answers = f" and gets {in_order(network, reading.client, reading.answers)}" if reading.answers else " without answers"
+    return f"{network.short(reading.client)} asks {network.short(reading.server)} by {in_order(network, reading.client, reading.requests)}{answers}"
+
+
+def in_order(network, part, events):
+    return listed([event for event in network.alphabet(part) if event in events])
+
+
+def read_link(network, left, right):
+    """The most natural reading of a link, or nothing; and the readings that are none, each with its fault, the most natural first."""
+    place = next((place for place, link in enumerate(network.links()) if (link.left, link.right) == (left, right)), None)
+    if place is None or not network.table(left) or not network.table(right):
+        return None, []
+    roles = Roles(network, [place])
+    return next(iter(roles.readings[place]), None), [dropped for dropped in roles.faults[place] if dropped[0]] or roles.faults[place]
 
 
 class Search:

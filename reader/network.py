@@ -5,8 +5,9 @@ evaluated from what `show` prints, and where that can't be followed the tables a
 import collections, pathlib, re, tempfile, time
 
 from layout import Layout
-from reports import ask, events_of, table_of, text_of
-from script import NoScript, lines_of
+from reports import ask, events_of, node_after, table_of, text_of
+from script import NOT_FOLLOWED, lines_of
+from trees import process_text
 from values import Script
 
 # Two components, the left one first, and the events that both have in their alphabets.
@@ -16,7 +17,6 @@ Noted = collections.namedtuple("Noted", "name meaning events")
 KINDS = {"client-server": "roles", "resource": "resource"}
 MEANINGS = {"roles": ("requests made", "answers got", "requests taken", "answers given"), "resource": ("acquire", "release")}
 MOST_BYTES = 1_048_576
-NOT_FOLLOWED = (NoScript, ValueError, TypeError, AttributeError, KeyError, IndexError, RecursionError, StopIteration)
 
 
 class Network:
@@ -33,7 +33,7 @@ class Network:
         self.shown = text_of(shown).splitlines() if shown.status == 0 else []
         self.lines = lines_of(self.source, self.shown)
         self.script, self.components, self.operands, self.tables, self.fault = None, [], [], {}, None
-        self.kept_alphabets, self.kept_owners, self.kept_links = {}, None, None
+        self.kept_alphabets, self.kept_alone, self.kept_owners, self.kept_links, self.kept_events = {}, {}, None, None, None
         try:
             self.script = Script(self.shown)
             layout = Layout(self.script)
@@ -87,6 +87,41 @@ class Network:
         if part not in self.tables:
             self.tables[part] = table_of(ask(self.program, ["table", self.file, str(part)], quiet=True))
         return self.tables[part]
+
+    def node_after(self, part, trace):
+        """The node of a component after a trace, or nothing where its table or the trace in it is not there."""
+        table = self.table(part)
+        at = node_after(table, trace) if table else None
+        return None if at is None else table.nodes[at]
+
+    def table_alone(self, part):
+        """The table that a component has by itself, where nobody blocks any event of its text; nothing where the program tells none."""
+        component, script = self.components[part], self.script
+        name, values = component.name, component.values
+        added = []
+        if not name:
+            # what is written out in the network is called by a name of its own, with the values that are bound there
+            name, values = free_name("ALONE", script), list(component.bound.values())
+            added = [f"{name}{'(' + ', '.join(component.bound) + ')' if values else ''} = {process_text(component.tree)}"]
+        asserted = f"assert {script.use(name, values)} : [ deadlock free ]"
+        if asserted not in self.kept_alone:
+            lines = [*(line for line in self.shown if not line.startswith("assert ")), *added, asserted, ""]
+            with tempfile.TemporaryDirectory() as room:
+                alone = pathlib.Path(room) / "alone.csp"
+                alone.write_text("\n".join(lines), encoding="utf-8")
+                self.kept_alone[asserted] = table_of(ask(self.program, ["table", str(alone), "0"], quiet=True))
+        return self.kept_alone[asserted]
+
+    def alone(self, part):
+        """The events that the text of a component does where nobody blocks it, or nothing where the program doesn't tell."""
+        table = self.table_alone(part)
+        return events_of(table) if table else None
+
+    def event(self, text):
+        """The event with a text."""
+        if self.kept_events is None:
+            self.kept_events = {self.script.text(event): event for event in self.script.all_events()}
+        return self.kept_events[text]
 
     def does(self, part):
         """The events that a component can do at all, as its table first has them."""
@@ -185,6 +220,11 @@ class Network:
         line = self.line(declaration)
         return f"declaration {declaration}" + (f", line {line}" if line else "")
 
+    def line_of(self, declaration):
+        """` (line 12)`, where it is known."""
+        line = self.line(declaration) if declaration is not None else None
+        return f" (line {line})" if line else ""
+
     def text(self, declaration):
         """A declaration as the source has it, where its place is known, else as `show` prints it."""
         if declaration >= len(self.lines):
@@ -195,3 +235,10 @@ class Network:
         while len(kept) > 1 and (not kept[-1].strip() or re.match(r"\s*--(?!@)|\s*assert\b", kept[-1])):
             kept.pop()
         return [line.rstrip() for line in kept]
+
+
+def free_name(wanted, script):
+    """A name that the script doesn't have."""
+    while wanted in script.names or wanted in script.consts:
+        wanted += "_"
+    return wanted

@@ -1,11 +1,9 @@
 """What breaks the rule `cyclic` (C1, the order, C2), read from the tables of the components. It proves nothing."""
 import collections
 
+from find_roles import asked, read_link
 from reports import node_after
 from texts import MOST_NAMED, listed, trace_text
-
-
-MOST_PAIRS = 200_000
 
 
 class Rounds:
@@ -176,93 +174,52 @@ def about_ends(network, told):
     cause = cause_of(network, told)
     if cause == "several":
         who = ", ".join(network.short(part) for part in collectors(network, left, right))
-        found.append(f"  {who} does one event with each of several before the next with any of them: it collects.")
-    elif cause == "handshake":
+        return found + [f"  {who} does one event with each of several before the next with any of them: it collects. Let one component collect and another answer (examples/barrier.csp)."]
+    if cause == "handshake":
         found.append("  The link has different events at different moments: one goes there, the other comes back.")
-    return found + missed(network, left, right, set(shared))
+    return found + link_reading(network, left, right)
 
 
-def missed(network, left, right, shared):
-    """Whether the two, taken alone, can come to wait past each other on their link, and after what."""
-    found = past_each_other(network.table(left), network.table(right), shared)
-    if found is None:
-        return []
-    if not found:
-        return ["  Taken alone, the two never wait past each other on this link; the rule can't see that."]
-    trace, first, second = found
-    ends = f"{network.short(left)} waits for {listed(first, 8)} and {network.short(right)} for {listed(second, 8)}"
-    return [f"  They can wait past each other: after {trace_text(trace)} {ends}"]
-
-
-def past_each_other(left, right, shared):
-    """A shortest trace of two tables, which do the shared events together, and an offer of each on the link alone so that these do not meet; `()` where there
-    is none, nothing where it can't be told."""
-    if not left or not right:
-        return None
-    seen, todo = {(0, 0): None}, collections.deque([(0, 0)])
-    while todo:
-        nodes = todo.popleft()
-        offers = [[offer for offer in table.nodes[node].accepts if offer and set(offer) <= shared] for table, node in zip((left, right), nodes)]
-        for first in offers[0]:
-            for second in offers[1]:
-                if not set(first) & set(second):
-                    return way_to(seen, nodes), first, second
-        for event, following in joint_steps(left.nodes[nodes[0]], right.nodes[nodes[1]], nodes, shared):
-            if following not in seen:
-                seen[following] = (nodes, event)
-                todo.append(following)
-        if len(seen) > MOST_PAIRS:
-            return None
-    return ()
-
-
-def joint_steps(left, right, nodes, shared):
-    """The steps of two nodes together: (event, nodes)."""
-    other = dict(right.steps)
-    for event, to in left.steps:
-        if event not in shared:
-            yield event, (to, nodes[1])
-        elif event in other:
-            yield event, (to, other[event])
-    for event, to in right.steps:
-        if event not in shared:
-            yield event, (nodes[0], to)
-
-
-def way_to(seen, nodes):
-    trace = []
-    while seen[nodes] is not None:
-        nodes, event = seen[nodes]
-        trace.append(event)
-    return trace[::-1]
+def link_reading(network, left, right):
+    """How the link reads as one of a client and a server, or why it doesn't: each end is looked at by itself."""
+    reading, dropped = read_link(network, left, right)
+    if reading:
+        return [f"  As a client and a server it is in order: {asked(network, reading)}."]
+    return [f"  Nor are the two a client and a server: {fault.condition}, {fault.what}." for _, fault in dropped[:1]]
 
 
 def short_ends(network, part, shared, trace):
-    table = network.table(part)
-    node = node_after(table, trace) if table else None
+    node = network.node_after(part, trace)
     if node is None:
         return []
-    for offer in table.nodes[node].accepts:
+    for offer in node.accepts:
         have, lack = [event for event in shared if event in offer], [event for event in shared if event not in offer]
         if have and lack:
-            able = [event for event in lack if event in dict(table.nodes[node].steps)]
+            able = [event for event in lack if event in dict(node.steps)]
             more = f"; {listed(able, 8)} it can do there too, but chooses" if able else ""
             return [f"  {network.short(part)} after {trace_text(trace)} may wait for {listed(have, 8)}, and not for {listed(lack, 8)}{more}"]
     return []
 
 
+def chooses(network, part, shared, trace):
+    """Whether an end may refuse there an event of the link that it can do there."""
+    node = network.node_after(part, trace)
+    able = {event for event, _ in node.steps} & shared if node else set()
+    return any(set(offer) & shared and not able <= set(offer) for offer in node.accepts) if node else False
+
+
 def cause_of(network, told):
-    """25: `choose` where the ends may wait past each other, or one could do what it doesn't wait for; `several` where one collects from several; else `handshake`."""
+    """25: `choose` where both ends choose, or what one offers is not what the other waits for; `several` where one collects from several; else `handshake`.
+
+    Each end is looked at by itself: its table, and the count of the link's events in it."""
     left, right = told.links[0]
     shared = set(network.shared(left, right))
-    if past_each_other(network.table(left), network.table(right), shared):
+    ends = [(network.node_after(part, told.traces.get(part, [])), chooses(network, part, shared, told.traces.get(part, []))) for part in (left, right)]
+    if all(choice for _, choice in ends) or any(node and shared <= {event for event, _ in node.steps} for node, _ in ends):
         return "choose"
-    for part in (left, right):
-        table = network.table(part)
-        node = node_after(table, told.traces.get(part, [])) if table else None
-        if node is not None and shared <= {event for event, _ in table.nodes[node].steps}:
-            return "choose"
-    return "several" if collectors(network, left, right) else "handshake"
+    if collectors(network, left, right):
+        return "several"
+    return "handshake" if read_link(network, left, right)[0] else "choose"
 
 
 def collectors(network, *ends):

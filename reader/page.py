@@ -1,13 +1,16 @@
 """Makes the page on a script: one HTML file that needs nothing from outside, with the verdict, the network, tables, the script, and steps of the network.
 
 The page is a picture of what the program reports: of `check`, `table` and `run`. It proves nothing."""
-import base64, collections, concurrent.futures, hashlib, json, pathlib, re, sys, time
+import base64, collections, concurrent.futures, hashlib, json, os, pathlib, re, time
 
 import picture
-from explain import ABOUT, RULES, about_comments, about_language, about_network, about_page, about_place, keys_of
+from explain import ABOUT, about_comments, about_language, about_network, about_page, about_place, keys_of
+from forms import RULES
 from network import NOT_FOLLOWED, Network
+from outputs import pass_on, warn
 from page_text import Linker, Script, escaped, findings_html, page_html, places_html, written_html
 from reports import ask, text_of, told_by
+from texts import counted
 from uses import Uses, held_while
 
 HOME = pathlib.Path(__file__).resolve().parent
@@ -148,10 +151,6 @@ def walks_of(runs, events):
         how = f"stuck after {counted(len(names), 'event')}" if is_stuck else f"{counted(len(names), 'event')}, and it goes on"
         made.append({"name": f"seed {seed}: {how}", "events": [events[name] for name in names], "stuck": is_stuck, "seed": seed})
     return made
-
-
-def counted(count, word):
-    return f"{count} {word}" + ("" if count == 1 else "s")
 
 
 # pictures
@@ -353,8 +352,8 @@ def page_of(facts, walks, report, name):
     here, named, head, meaning = explained(facts, linker)
     folded = [folded_html("meaning", f"What this answer means: {head}", meaning and f'<div class="page">{meaning}</div>')]
     folded.append(folded_html("parts", "Components and links that are named", named and f'<div class="findings">{named}</div>'))
-    style = (HOME / "page.css").read_text()
-    code = "\n".join((HOME / file).read_text() for file in CODE)
+    style = (HOME / "page.css").read_text(encoding="utf-8")
+    code = "\n".join((HOME / file).read_text(encoding="utf-8") for file in CODE)
     pieces = {
         "name": escaped(name), "rule": escaped(facts.rule), "style": style, "code": code, "style_sum": hashed(style), "code_sum": hashed(code),
         "verdict": verdict_html(facts, walks, report, linker), "report": linker.html(text_of(report).rstrip("\n")),
@@ -362,7 +361,31 @@ def page_of(facts, walks, report, name):
         "templates": "\n".join(f'<template id="machine-{number}">{text}</template>' for number, text in enumerate(drawn) if text),
         "data": in_script(page_data(facts, walks, numbers)), "status": str(facts.told.status),
     }
-    return filled((HOME / "page.html").read_text(), pieces)
+    return filled((HOME / "page.html").read_text(encoding="utf-8"), pieces)
+
+
+def is_same(script, file):
+    try:
+        return os.path.samefile(script, file)
+    except (OSError, ValueError):
+        return False
+
+
+def put(file, text):
+    """Writes a file beside its place and then puts it there, so that an older page stands until the new one is whole. What is no plain file is written into."""
+    target = pathlib.Path(os.path.realpath(file))
+    if target.exists() and not target.is_file():
+        target.write_text(text, encoding="utf-8")
+        return
+    beside = target.with_name(f".{target.name}.{os.getpid()}")
+    try:
+        beside.write_text(text, encoding="utf-8")
+        if target.exists():
+            beside.chmod(target.stat().st_mode & 0o7777)
+        os.replace(beside, target)
+    except BaseException:
+        beside.unlink(missing_ok=True)
+        raise
 
 
 def command(program, words):
@@ -371,14 +394,16 @@ def command(program, words):
     if len(words) != 3 or words[0] not in RULES or not words[2].endswith((".html", ".htm")):
         return None
     rule, script, file = words
+    if is_same(script, file):
+        warn(f"dlcheck: {file} is the script, and is not written over: give the page another name")
+        return 70
     network = Network(program, script)
     asked = ["check", rule, network.file]
     report = ask(program, asked)
-    sys.stdout.buffer.write(report.sent)
-    sys.stdout.flush()
+    pass_on(report)
     facts = Facts(network, told_by(asked, report), rule)
     runs = tried(program, network.file, report.status == 0) if facts.has_steps else []
     facts.tries, walks = len(runs), walks_of(runs, facts.events)
-    pathlib.Path(file).write_text(page_of(facts, walks, report, pathlib.Path(script).name), encoding="utf-8")
-    print(f"dlcheck: the page is {file}", file=sys.stderr)
+    put(file, page_of(facts, walks, report, pathlib.Path(script).name))
+    warn(f"dlcheck: the page is {file}")
     return report.status

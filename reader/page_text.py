@@ -1,23 +1,13 @@
 """Texts of the page: the script with its lines, explanations with links, and whatever a script may hold made harmless.
 
 A script may hold any byte. What leads a text astray (control characters, signs that turn the direction of writing) is shown by its number."""
-import html, re, unicodedata
+import html, re
+
+from script import NAME, RESERVED, pieces_of
+from texts import plain
 
 MOST_LINKED_LINES = 20_000
-KEYWORDS = set("and assert channel datatype diff else false if inter nametype not or then true union STOP SKIP".split())
-# a piece of a line of a script: a comment opens, closes, or goes to the end of the line; or a name
-PIECE = re.compile(r"(?P<open>\{-)|(?P<comment>--.*)|(?P<name>[A-Za-z][A-Za-z0-9_]*'*)|(?P<number>[0-9]+)")
-FENCE = re.compile(r"(?P<open>\{-)|(?P<close>-\})")
 NAMED = re.compile(r"(?P<line>\bline (?P<row>\d+)\b)|(?P<numbered>\b[Cc]omponent (?P<part>\d+)\b)|(?P<call>\b[A-Za-z][A-Za-z0-9_]*'*(?:\((?:[^()]|\([^()]*\))*\))?(?P<which> \(\d+\))?)")
-
-
-def plain(text):
-    """A text without characters that are not seen, or that change how others are seen."""
-    kept = []
-    for sign in text:
-        hidden = unicodedata.category(sign) in ("Cc", "Cf", "Cs", "Co", "Cn", "Zl", "Zp") and sign not in "\t\n"
-        kept.append(f"\u27e8{ord(sign):X}\u27e9" if hidden else sign)
-    return "".join(kept)
 
 
 def escaped(text):
@@ -33,51 +23,39 @@ class Script:
         if not self.lines[-1] and len(self.lines) > least:
             self.lines.pop()
         self.declared = declared if len(self.lines) <= MOST_LINKED_LINES else {}
-        self.depth = 0
 
     def rows(self, marked):
         """A row for each line; `marked` are the numbers of lines that the answer is about."""
-        made = []
-        for number, line in enumerate(self.lines, 1):
+        made = [[]]
+        for kind, piece in pieces_of("\n".join(self.lines)):
+            for place, text in enumerate(piece.split("\n")):
+                made += [[]] if place else []
+                made[-1].append(self.piece(kind, text, len(made)))
+        rows = []
+        for number, line in enumerate(made, 1):
             sort = ' class="marked"' if number in marked else ""
-            made.append(f'<li id="line-{number}"{sort}><code>{self.line(line, number) or "&#8203;"}</code></li>')
-        return "\n".join(made)
+            rows.append(f'<li id="line-{number}"{sort}><code>{"".join(line) or "&#8203;"}</code></li>')
+        return "\n".join(rows)
 
-    def line(self, line, number):
-        made, at = [], 0
-        while at < len(line):
-            # comments that nest hold nothing but others of their kind
-            found = (FENCE if self.depth else PIECE).search(line, at)
-            if not found:
-                break
-            made += [self.outside(line[at : found.start()]), self.piece(found, number)]
-            at = found.end()
-        return "".join([*made, self.outside(line[at:])])
-
-    def outside(self, text):
+    def piece(self, kind, text, number):
+        """A piece, or what a line has of it."""
         if not text:
             return ""
-        return f'<span class="note">{escaped(text)}</span>' if self.depth else escaped(text)
-
-    def piece(self, found, number):
-        kind, text = found.lastgroup, found[0]
-        if kind in ("open", "close"):
-            self.depth += 1 if kind == "open" else -1 if self.depth else 0
+        if kind in ("comment", "fence", "open"):
             return f'<span class="note">{escaped(text)}</span>'
-        if kind == "comment":
-            if re.match(r"--@[ \t\r]*(roles|resource)[ \t\r]", text):
-                return f'<span class="annotation">{self.linked(text, number)}</span>'
-            return f'<span class="note">{escaped(text)}</span>'
-        if kind == "name" and text in KEYWORDS:
+        if kind == "note":
+            return f'<span class="annotation">{self.linked(text, number)}</span>'
+        if kind == "name" and text in RESERVED:
             return f'<span class="word">{text}</span>'
         return self.linked(text, number) if kind == "name" else escaped(text)
 
     def linked(self, text, number):
-        def link(found):
+        made, at = [], 0
+        for found in NAME.finditer(text):
             line = self.declared.get(found[0])
-            return f'<a href="#line-{line}">{escaped(found[0])}</a>' if line and line != number else escaped(found[0])
-
-        return "".join(link(found) if found.lastgroup == "name" else escaped(found[0]) for found in re.finditer(r"(?P<name>[A-Za-z][A-Za-z0-9_]*'*)|[^A-Za-z]+|.", text))
+            made += [escaped(text[at : found.start()]), f'<a href="#line-{line}">{found[0]}</a>' if line and line != number else found[0]]
+            at = found.end()
+        return "".join([*made, escaped(text[at:])])
 
 
 class Linker:

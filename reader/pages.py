@@ -1,15 +1,6 @@
 """The pages beside the program: what stands in them on an answer, and which rows of the table of the language may be about a line."""
 import pathlib, re
 
-# What in a line of the source leads to a row of the page on the language, by the row's first word or words.
-SIGNS = (
-    (r"\|\|\|", "interleaving"), (r"\[\|.*\|>", "interrupt"), (r"\[\|(?!.*\|>)", "parallel over"), (r"<->", "linked parallel"), (r"\blet\b|\bwithin\b", "local definitions"),
-    (r"^\s*\w+\([^)]*\b\d+\b[^)]*\)\s*=", "definitions by cases"), (r"<\s*>|<\w+(,\s*\w+)*>|\^|#", "sequences"), (r"\?_", "an input that doesn't"), (r"\?\w+\.", "several fields"),
-    (r"datatype.*\.", "fields in a datatype"), (r"\b(union|inter|diff)\([^()]*,?\s*if\b", "an if within"), (r"/\\|\[>", "interrupt"), (r"\(\s*\w+\s*,\s*\w+\s*\)\s*\)", "tuples"),
-    (r"\{-", "negative numbers"), (r"\binclude\b|\bprint\b", "files and print"), (r"[^\x00-\x7f]", "signs that are no ASCII"), (r"\[\].*\|~\||\|~\|.*\[\]", "mixed choices"),
-    (r"\]\s*[\w()]+\s*\[[^\]]*\|\|", "three in one"), (r"(\[|\|\|)\s*if\b", "an if as an alphabet"), (r"^(?!.*--@)(?=.*\bif\b)(?!.*\belse\b)", "an if without else"), (r"--@", "an annotation:"),
-)
-
 
 def page_named(name):
     """A page: in the repository, or where it is installed."""
@@ -28,7 +19,7 @@ def section(number, keys=()):
     if not page:
         return None, None
     kept, inside = [], False
-    for line in page.read_text().splitlines():
+    for line in page.read_text(encoding="utf-8").splitlines():
         if line.startswith("## "):
             head = line[3:]
             inside = head == number or head.split()[0] == number
@@ -72,15 +63,10 @@ def bullets_for(lines, keys):
 def table_rows():
     """The table of the page on the language: its head, and groups of rows, each with what it is about."""
     page = page_named("LANGUAGE.md")
-    table = re.search(r"<!-- begin: rows -->\n(.*?)<!-- end -->", page.read_text(), re.S) if page else None
+    table = re.search(r"<!-- begin: rows -->\n(.*?)<!-- end -->", page.read_text(encoding="utf-8"), re.S) if page else None
     groups = [group.split("\n") for group in table[1].split("\n\n")] if table else []
     head = groups[0][0] if groups else ""
     return head[4:], [[line[4:] for line in group] for group in groups[1:]]
-
-
-def signs_of(lines):
-    """What rows the signs in these lines lead to."""
-    return [word for line in lines for sign, word in SIGNS if re.search(sign, line)]
 
 
 # What the rows of a number are about beyond it: the first words of the group, and a test of what is told and of the network.
@@ -102,13 +88,11 @@ def heads_of_parameters(network, declaration):
     return any(re.search(rf"(?<!\w){re.escape(name)} [.!?]", body) for name in re.findall(r"\w+", head)[1:])
 
 
-def is_about(group, told, signs, network, at):
+def is_about(group, told, network, at):
     """Whether a group of rows may be about what is refused."""
     about = group[0][3:]
-    if not any(row[at:].startswith(told.number + " ") for row in group[1:]):
+    if told.number == "1" or not any(row[at:].startswith(told.number + " ") for row in group[1:]):
         return False
-    if told.number == "1":
-        return any(about.startswith(word) for word in signs)
     if told.number == "4":
         # a name of one letter stands there for any
         return len(told.event) > 1 and any(re.search(rf"\b{re.escape(told.event)}\b", row[:at]) for row in group[1:])
@@ -116,10 +100,15 @@ def is_about(group, told, signs, network, at):
     return not tests or bool(tests[0](told, network))
 
 
-def language_rows(told, signs, network):
-    """The rows of the table that may be about what is refused."""
+def language_rows(told, network, constructs):
+    """The rows of the table that may be about what is refused, and those about constructs that the script has."""
     head, groups = table_rows()
     if told.number not in ("1", "4", "5", "6", "7", "8", "10", "14", "19") or not groups or not network.script:
         return []
     at = head.index("told")
-    return ["  " + row for group in groups if is_about(group, told, signs, network, at) for row in group]
+    return ["  " + row for group in groups if is_about(group, told, network, at) or group[0][3:].startswith(tuple(constructs)) for row in group]
+
+
+def row_head(about):
+    """What a group of rows is about, in a few words: `tuples` of `tuples: two parameters, two fields`."""
+    return next((group[0][3:].split(":")[0] for group in table_rows()[1] if group[0][3:].startswith(about)), about.rstrip(":"))

@@ -1,7 +1,5 @@
 """What is told of a component and of a link: how it is written, its events, where it stands after a trace, and what it can do there."""
-import pathlib, tempfile
-
-from reports import ask, node_after, table_of
+from reports import node_after
 from texts import MOST_NAMED, listed, trace_text
 
 INDENT = "  "
@@ -70,14 +68,9 @@ def about_stop(network, told):
 
 def blocked_events(network, part, trace):
     """What a component would do after a trace if its alphabet held all events: it is asked for alone."""
-    own = network.name(part)
-    if not own or network.components[part].alphabet is None:
+    if part >= len(network.components) or network.components[part].alphabet is None:
         return []
-    shown = [line for line in network.shown if not line.startswith("assert ")]
-    with tempfile.TemporaryDirectory() as room:
-        alone = pathlib.Path(room) / "alone.csp"
-        alone.write_text("\n".join([*shown, f"assert {own} : [ deadlock free ]", ""]))
-        table = table_of(ask(network.program, ["table", str(alone), "0"], quiet=True))
+    table = network.table_alone(part)
     node = node_after(table, trace) if table else None
     if node is None:
         return []

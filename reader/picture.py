@@ -5,6 +5,8 @@ page draws plainly by itself."""
 import html, re, shutil, subprocess
 import xml.etree.ElementTree as ElementTree
 
+from texts import quoted
+
 LONGEST = 20
 MOST_LINES = 3
 NAMESPACE = "{http://www.w3.org/2000/svg}"
@@ -14,10 +16,6 @@ SHAPES = {"path": ("d",), "polygon": ("points",), "polyline": ("points",), "elli
 
 def has_graphviz():
     return shutil.which("dot") is not None
-
-
-def quoted(text):
-    return '"' + text.replace("\\", "\\\\").replace('"', '\\"').replace("\n", "\\n") + '"'
 
 
 def event_lines(events):

@@ -1,14 +1,15 @@
 """What a refusal names in the script: names, assertions, alphabets, sizes. It proves nothing."""
 import difflib, re
 
+from alphabets import own_alphabets
 from faults import about_count, about_end, about_growth, about_silence, about_value, holds, uses_in
 from layout import Layout
 from network import NOT_FOLLOWED
+from script import FOREIGN, RESERVED
 from texts import MOST_NAMED, listed
 from trees import Parser, written
 
-# Words that are reserved and stand for nothing here.
-UNUSED = ("external", "lambda", "module", "subtype", "timed", "transparent")
+MOST_LINES = 6
 ASSERTION = re.compile(r"^\s*assert\b(.*)$")
 
 
@@ -58,8 +59,11 @@ def about_slip(network, told):
         return []
     front = lines[row - 1].encode(errors="replace")[: column - 1].decode(errors="replace")
     word = re.match(r"\w*", lines[row - 1][len(front) :])[0]
-    if word in UNUSED:
-        return ["", f"{word} is a reserved word, and no name."]
+    if word in RESERVED | FOREIGN:
+        return ["", f"{word} is a reserved word, and no name" + ("; it stands for nothing here." if word in FOREIGN else ".")]
+    # `assert` takes the rest of its line, so the slip is told behind it
+    if re.search(r"\S.*\bassert\b", re.sub(r"--.*", "", next((line for line in reversed(lines[: row - 1]) if line.strip()), ""))):
+        return ["", "assert is a reserved word, and no name: it takes the rest of its line."]
     end = row - 1 if not front.strip() else next((place for place in range(row, len(lines)) if not re.match(r"\s+\S", lines[place])), len(lines))
     # of forms of CSPm that are not taken, `[>` and `[|A|>` open what nothing closes, and `{-` is a comment
     text = re.sub(r"--(?!@).*|\{-(.|\n)*|\[[>|]|\|[\]>]", "", "\n".join(declaration_before(lines[:end])))
@@ -182,8 +186,29 @@ def about_nesting(network, told):
         found = ["", f"The network of {who} is given an alphabet that is not theirs:"]
         found += [f"  not in it: {listed(lacks)}, of {listed([network.short(part) for part in holders(network, operand, lacks[0])])}"] if lacks else []
         found += [f"  in it, and of none of them: {listed(besides)}"] if besides else []
-        return found + [f"  all that they have: {listed(script.texts(own))}"]
+        return found + [f"  all that they have: {listed(script.texts(own))}"] + text_lines(network, operand, set(lacks), set(besides))
     return []
+
+
+def text_lines(network, operand, lacks, besides):
+    """Of the components of an operand what their texts do of the events on which the alphabets differ: so it is seen which alphabet is meant."""
+    found = []
+    for own in own_alphabets(network, range(operand.first, operand.end)):
+        if own.does is None or own.alphabet is None or len(found) >= MOST_LINES:
+            continue
+        who, texts = network.short(own.part), network.script.texts
+        where, given = network.line_of(network.defined(own.part)), network.line_of(own.declaration)
+        missing = [event for event in texts(own.does - own.alphabet) if event in besides]
+        found += [f"  {who} does {listed(missing, 6)}{where}, its alphabet{given} lacks {them(missing)}: put {them(missing)} there"] if missing else []
+        meant = [event for event in texts(own.does & own.alphabet) if event in lacks]
+        found += [f"  {who} does {listed(meant, 6)}{where}: put {them(meant)} into the outer alphabet"] if meant else []
+        idle = [event for event in texts(own.alphabet - own.does) if event in lacks]
+        found += [f"  {who} never does {listed(idle, 6)}{where}: take {them(idle)} out of its alphabet{given}"] if idle else []
+    return found
+
+
+def them(events):
+    return "it" if len(events) == 1 else "them"
 
 
 def holders(network, operand, event):

@@ -108,6 +108,8 @@ def unannotated(network, part, kind):
     names = [note[1] for note in network.script.notes if note[0] == kind] if network.script else []
     shares = [link for link in network.links_of(part)]
     found = [f"{network.short(part)} has no annotation --@ {kind}; annotated are: {listed(names)}"]
+    if not names:
+        found.append(f"  `--annotate {kind} SCRIPT` looks for annotations, and prints the script with them")
     if component and component.chosen:
         of_it = f", though it comes to {component.call}" + (", which is annotated" if component.name in names else "") if component.call else ""
         found += [f"  where the network calls it stands an `if`, and an annotation speaks of a component that is called by its name alone{of_it}",
@@ -231,7 +233,7 @@ def about_clients(network, told):
     found += [f"  and so on, {len(parts)} components in all"] if len(parts) > MOST_NAMED else []
     if len(silent) == min(len(parts), MOST_NAMED):
         return found + ["  No link of it has answers: it is a ring in which things are handed on. Where fewer are under way than there is room for, it can't be stuck, which this rule",
-                        "  doesn't see: look whether `cyclic` fits, or let them go down a line and not round."]
+                        "  doesn't see: look whether `cyclic` fits, or let them go down a line and not round; or put a mailbox between two of them (docs/RULES.md, \"A mailbox\")."]
     return found + cuts(network, roles, parts)
 
 

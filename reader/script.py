@@ -3,62 +3,89 @@
 This serves the reader of reports alone. It proves nothing: what a text spells is told by the program."""
 import re
 
-TOKEN = re.compile(
+PIECE = re.compile(
     r"(?P<blank>[ \t\r\n]+)|(?P<note>--@[ \t\r]*(?:roles|resource)(?=[ \t\r\n])[^\n]*)|(?P<comment>--[^\n]*)|(?P<open>\{-)"
     r"|(?P<name>[A-Za-z][A-Za-z0-9_]*'*)|(?P<number>[0-9]+)"
-    r"|(?P<symbol>\|~\||->|\[\]|\|\||\[\[|\]\]|\{\||\|\}|<-|\.\.|==|!=|<=|>=|[-.!?:@=<>+*/%(){}\[\],&|\\;])"
+    r"|(?P<symbol>\|~\||->|\[\]|\|\||\[\[|\]\]|\{\||\|\}|<-|\.\.|==|!=|<=|>=|[-.!?:@=<>+*/%(){}\[\],&|\\;])|(?P<other>(?s:.))"
 )
+FENCE = re.compile(r"\{-|-\}")
+NAME = re.compile(r"[A-Za-z][A-Za-z0-9_]*'*")
 ASSERTED = re.compile(r"\s*[A-Za-z][A-Za-z0-9_]*'*\s*(?:\(.*\)\s*)?:\s*\[\s*deadlock\s+free\s*(?:\[\s*(?:FD|F)\s*\]\s*)?\]\s*$")
+# The words that are reserved: those of the language, and those that stand for something in the languages of other checkers alone.
+RESERVED = frozenset("and assert channel datatype diff else false if inter nametype not or then true union STOP SKIP".split())
+FOREIGN = frozenset("external include lambda let module print subtype timed transparent within".split())
 
 
 class NoScript(Exception):
     """The text is none that this file can follow."""
 
 
+# What is raised where a script can't be followed: then the reports of the program stand alone. Whatever else is raised is a fault of the reader's own.
+NOT_FOLLOWED = (NoScript, RecursionError)
+
+
+def piece_at(text, at):
+    """The kind of the piece of a text that begins here, and where it ends. A comment that nests is one piece, a `fence`; one that is never closed is `open`."""
+    match = PIECE.match(text, at)
+    if match.lastgroup != "open":
+        return match.lastgroup, match.end()
+    end = end_of_comment(text, at)
+    return ("fence", end) if end else ("open", len(text))
+
+
+def pieces_of(text):
+    """The pieces of any text: (kind, piece)."""
+    at = 0
+    while at < len(text):
+        kind, end = piece_at(text, at)
+        yield kind, text[at:end]
+        at = end
+
+
 def tokens_of(text):
     """The tokens of a text with the line of each, without comments and without assertions that are skipped."""
     at, line, found = 0, 1, []
     while at < len(text):
-        match = TOKEN.match(text, at)
-        if not match:
+        kind, end = piece_at(text, at)
+        piece = text[at:end]
+        if kind in ("other", "open"):
             raise NoScript(f"line {line}")
-        kind, piece = match.lastgroup, match[0]
-        if kind == "open":
-            end = end_of_comment(text, at)
-            line, at = line + text.count("\n", at, end), end
-            continue
-        if kind == "name" and piece == "assert":
-            end = min(i for i in (text.find("\n", at), text.find("--", at), text.find("{-", at), len(text)) if i >= 0)
-            rest = text[match.end() : end]
-            if ASSERTED.match(rest):
-                rest = re.sub(r"\[\s*(?:FD|F)\s*\]\s*\]", "]", rest)
-                found += [("assert", line)] + [(token, line) for token in re.findall(r"[A-Za-z0-9_']+|[^\sA-Za-z0-9_']", rest)]
-            at = end
-            continue
         if kind == "note":
             found += [("--@", line)] + [(word, line) for word in piece[3:].split()]
         elif kind == "number":
-            found.append((str(int(piece)), line))
+            # Python reads no numeral of more than some thousand digits
+            found.append((piece.lstrip("0") or "0", line))
+        elif piece == "assert":
+            found += [(token, line) for token in assertion(text, end)]
+            end = end_of_assertion(text, end)
         elif kind in ("name", "symbol"):
             found.append((piece, line))
         line += piece.count("\n")
-        at = match.end()
+        at = end
     return found
 
 
+def end_of_assertion(text, at):
+    """Where the rest of an assertion's line ends: at the line's end or at a comment, whatever stands before it."""
+    return re.compile(r"[^\n]*?(?=\n|--|\{-|$)").match(text, at).end()
+
+
+def assertion(text, at):
+    """The tokens of the assertion whose word ends here, or none where it is skipped."""
+    rest = text[at : end_of_assertion(text, at)]
+    if not ASSERTED.match(rest):
+        return []
+    return ["assert", *re.findall(r"[A-Za-z0-9_']+|[^\sA-Za-z0-9_']", re.sub(r"\[\s*(?:FD|F)\s*\]\s*\]", "]", rest))]
+
+
 def end_of_comment(text, at):
-    """Where the comment that opens here ends: such comments nest."""
+    """Where the comment that opens here ends, since such comments nest; nothing where it doesn't."""
     depth = 0
-    while at < len(text):
-        if text.startswith("{-", at):
-            depth, at = depth + 1, at + 2
-        elif text.startswith("-}", at):
-            depth, at = depth - 1, at + 2
-            if depth == 0:
-                return at
-        else:
-            at += 1
-    raise NoScript("an open comment")
+    for fence in FENCE.finditer(text, at):
+        depth += 1 if fence[0] == "{-" else -1
+        if depth == 0:
+            return fence.end()
+    return None
 
 
 def without_brackets(tokens):
@@ -78,10 +105,10 @@ def lines_of(source, shown):
         at, lines = 0, []
         for declaration in shown:
             own = without_brackets(tokens_of(declaration + "\n"))
-            if [token for token, _ in own] != [token for token, _ in written[at : at + len(own)]]:
+            if not own or [token for token, _ in own] != [token for token, _ in written[at : at + len(own)]]:
                 return []
             lines.append(written[at][1])
             at += len(own)
         return lines if at == len(written) else []
-    except (NoScript, IndexError):
+    except NoScript:
         return []

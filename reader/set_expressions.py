@@ -4,7 +4,7 @@ Patterns of events, whose fields are parameters, what is computed of them, or al
 events. What no pattern covers is listed call by call. It proves nothing; what is found is evaluated again by whoever asks."""
 import collections, functools, itertools
 
-from script import NoScript
+from script import NOT_FOLLOWED as NO_VALUE
 from trees import BINARY, Parser
 from values import Const, Event
 
@@ -16,7 +16,6 @@ MOST_TERMS = 6
 MOST_LISTED = 8
 DATA = {"name", "call", "dot", "if", "display", "range", "those", "production", "union", "inter", "diff", "not", *BINARY}
 MOST_EVALUATED = 20_000
-NO_VALUE = (NoScript, ValueError, TypeError, KeyError, IndexError, RecursionError, AttributeError)
 
 
 def is_data(script, name, seen=()):
@@ -290,7 +289,7 @@ class Finder:
 
     def piece(self, channel, chosen, events, guard):
         """A pattern as it is written, or nothing where what its free fields range over can't be written."""
-        name, cost = list(self.script.channels)[channel], guard.cost if guard else 0
+        name, cost = self.script.channel_names[channel], guard.cost if guard else 0
         fields = self.script.fields_of(name)
         known = [place for place, own in enumerate(events) if own]
         free = [number for number, term in enumerate(chosen) if term is None]

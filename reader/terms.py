@@ -3,7 +3,7 @@
 More may be looked at than the component comes to: all values of an input, and what stands behind a `;`. It proves nothing."""
 import collections
 
-from script import NoScript
+from script import NOT_FOLLOWED, NoScript
 from values import Event, NoValue
 
 MOST_TERMS = 40_000
@@ -118,5 +118,5 @@ def terms_of(script, component):
     """The terms of a component, or nothing where they can't be followed."""
     try:
         return Terms(script, component)
-    except (NoScript, ValueError, TypeError, AttributeError, KeyError, IndexError, RecursionError):
+    except NOT_FOLLOWED:
         return None

@@ -11,6 +11,7 @@ from script import NoScript, tokens_of
 
 BINARY = {"or", "and", "==", "!=", "<", "<=", ">", ">=", "+", "-", "*", "/", "%"}
 SETS = ("union", "inter", "diff")
+MOST_DIGITS = 9
 
 
 class Parser:
@@ -25,8 +26,8 @@ class Parser:
 
     def take(self, wanted=None):
         token = self.tokens[self.at]
-        if wanted is not None and token != wanted:
-            raise NoScript(f"{token} and not {wanted}")
+        if token == "" or (wanted is not None and token != wanted):
+            raise NoScript(f"{token or 'the end'} and not {wanted}")
         self.at += 1
         return token
 
@@ -73,7 +74,7 @@ class Parser:
             return self.event(left)
         if token == "->":
             self.take()
-            return ("prefix", left[1], [], self.atom())
+            return ("prefix", name_of(left), [], self.atom())
         if token in BINARY:
             self.take()
             return (token, left, self.atom())
@@ -123,8 +124,10 @@ class Parser:
             fields.append(("in", name, values))
         if self.peek() == "->":
             self.take()
-            return ("prefix", head[1], fields, self.atom())
-        return ("dot", head[1], [field[2] for field in fields])
+            return ("prefix", name_of(head), fields, self.atom())
+        if any(field[0] == "in" for field in fields):
+            raise NoScript("an input in an expression")
+        return ("dot", name_of(head), [field[2] for field in fields])
 
     def part(self):
         """A channel with some of its fields, as in a production."""
@@ -171,7 +174,7 @@ class Parser:
         if token == "{":
             return self.braces()
         if token.isdigit():
-            return ("number", int(token))
+            return ("number", number_of(token))
         if token in ("true", "false"):
             return ("truth", token == "true")
         if token in ("STOP", "SKIP"):
@@ -207,6 +210,19 @@ class Parser:
         return ("display", items)
 
 
+def number_of(numeral):
+    """The value of a numeral; those that are longer are beyond any number of the language."""
+    if len(numeral) > MOST_DIGITS:
+        raise NoScript("a numeral that is too long")
+    return int(numeral)
+
+
+def name_of(tree):
+    if tree[0] != "name":
+        raise NoScript("no name")
+    return tree[1]
+
+
 def written(tree):
     """An expression as somebody writes it."""
     form = tree[0]
@@ -229,13 +245,54 @@ def written(tree):
     if form == "those":
         return "{" + ", ".join(written(item) for item in tree[1]) + f" | {drawn_from(tree[2])}" + "}"
     if form == "production":
-        parts = ", ".join(".".join([name, *(operand(field) for field in fields)]) for name, fields in tree[1])
+        parts = ", ".join(part_text(part) for part in tree[1])
         return "{| " + parts + (f" | {drawn_from(tree[2])}" if tree[2] else "") + " |}"
     if form in SETS:
         return f"{form}({written(tree[1])}, {written(tree[2])})"
     if form == "not" or (form == "-" and len(tree) == 2):
         return (form + " " if form == "not" else form) + operand(tree[1])
     return f"{operand(tree[1])}{form}{operand(tree[2])}" if form in ("+", "-", "*", "/", "%") else f"{operand(tree[1])} {form} {operand(tree[2])}"
+
+
+def process_text(tree):
+    """A process as `show` prints it."""
+    form = tree[0]
+    if form in ("stop", "skip"):
+        return form.upper()
+    if form in ("name", "call"):
+        return written(tree)
+    if form == "prefix":
+        return f"{tree[1]}{''.join(field_text(field) for field in tree[2])} -> {inner_text(tree[3])}"
+    if form == "choice":
+        return f" {tree[1]} ".join(inner_text(part) for part in tree[2])
+    if form == "over":
+        return f"{tree[1]} {tree[2]}:{operand(tree[3])} @ {process_text(tree[4])}"
+    if form == "then":
+        return f"{inner_text(tree[1])} ; {inner_text(tree[2])}"
+    if form == "guard":
+        return f"{operand(tree[1])} & {inner_text(tree[2])}"
+    if form == "if":
+        return f"if {written(tree[1])} then {process_text(tree[2])} else {process_text(tree[3])}"
+    if form == "hide":
+        return f"{inner_text(tree[1])} \\ {operand(tree[2])}"
+    if form == "rename":
+        pairs = ", ".join(f"{part_text(old)} <- {part_text(new)}" for old, new in tree[2])
+        return f"{inner_text(tree[1])}[[{pairs}{f' | {drawn_from(tree[3])}' if tree[3] else ''}]]"
+    raise NoScript(f"{form} is no process")
+
+
+def inner_text(tree):
+    return process_text(tree) if tree[0] in ("stop", "skip", "name", "call") else f"({process_text(tree)})"
+
+
+def field_text(field):
+    if field[0] == "out":
+        return field[1] + operand(field[2])
+    return f"?{field[1]}" + (f":{operand(field[2])}" if field[2] else "")
+
+
+def part_text(part):
+    return ".".join([part[0], *(operand(field) for field in part[1])])
 
 
 def operand(tree):

@@ -4,7 +4,7 @@ This serves the reader of reports alone, and it proves nothing. Where it can't f
 import collections
 
 from script import NoScript
-from trees import Parser
+from trees import BINARY, Parser
 
 Const = collections.namedtuple("Const", "order name")
 Event = collections.namedtuple("Event", "channel fields")
@@ -36,7 +36,7 @@ class Script:
     def __init__(self, shown):
         self.shown = shown
         self.channels, self.consts, self.datatypes, self.names, self.definitions = {}, {}, {}, {}, {}
-        self.notes, self.asserted, self.parsed, self.types, self.steps = [], None, {}, {}, 0
+        self.notes, self.asserted, self.asserted_at, self.parsed, self.types, self.steps, self.channel_names = [], None, None, {}, {}, 0, []
         for number, line in enumerate(shown):
             self.declare(number, line)
 
@@ -48,6 +48,7 @@ class Script:
             for name in names.split(" , "):
                 self.names.setdefault(name, number)
                 self.channels[name] = (len(self.channels), types)
+                self.channel_names.append(name)
         elif line.startswith("datatype "):
             name, _, constants = line[9:].partition(" = ")
             self.names.setdefault(name, number)
@@ -57,7 +58,8 @@ class Script:
                 members.append(self.consts[constant])
             self.datatypes[name] = frozenset(members)
         elif line.startswith("assert "):
-            self.asserted = self.asserted or line[7:].rsplit(" : [ deadlock free ]", 1)[0]
+            if not self.asserted:
+                self.asserted, self.asserted_at = line[7:].rsplit(" : [ deadlock free ]", 1)[0], number
         else:
             head, _, body = (line[9:] if line.startswith("nametype ") else line).partition(" = ")
             name, _, parameters = head.partition(" ( ")
@@ -102,7 +104,7 @@ class Script:
     def value(self, tree, bound):
         self.count()
         form = tree[0]
-        if form in ("number", "truth", "given"):
+        if form in ("number", "truth"):
             return tree[1]
         if form == "name":
             return self.named(tree, bound)
@@ -144,6 +146,8 @@ class Script:
 
     def computed(self, tree, bound):
         form = tree[0]
+        if form not in BINARY:
+            raise NoScript(f"{form} has no value")
         if len(tree) == 2:
             return self.in_range(tree, -self.number(tree[1], bound))
         if form in ("==", "!="):
@@ -277,7 +281,7 @@ class Script:
         if isinstance(value, Const):
             return value.name
         if isinstance(value, Event):
-            return ".".join([list(self.channels)[value.channel], *(self.text(field) for field in value.fields)])
+            return ".".join([self.channel_names[value.channel], *(self.text(field) for field in value.fields)])
         if isinstance(value, frozenset):
             return "{" + ", ".join(self.text(item) for item in sorted(value)) + "}"
         return f"({value})" if value < 0 else str(value)
