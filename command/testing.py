@@ -19,14 +19,14 @@ MOST_LINES = 60
 
 class Test(NamedTuple):
     what: str
-    # from the top; PROGRAM stands for the program, STACK for the stack that it needs, UNPROVED for --unproved where it is that
+    # from the top; a word in capitals stands for what Runs gives it
     command: str
 
 
 # A further test is a line here. What is dear comes first.
 TESTS = (
     Test("the command from outside", ".ci/wrapper PROGRAM"),
-    Test("failing memory and devices", "bench/faults PROGRAM"),
+    Test("failing memory and devices", "bench/faults ALL PROGRAM"),
     Test("reports that are explained", "reader/test PROGRAM"),
     Test("annotations that are proposed", "reader/test_annotate PROGRAM"),
     Test("pages in a browser", "reader/test_page PROGRAM"),
@@ -43,7 +43,9 @@ class Runs:
     """The tests that run, each in a session of its own, so that it can be ended with all that it started."""
 
     def __init__(self, program):
-        self.given = {"PROGRAM": str(program.path), "STACK": str(PROVED_STACK if program.state == PROVEN else builder.STACK), "UNPROVED": "" if program.state == PROVEN else "--unproved"}
+        is_proved = program.state == PROVEN
+        # an unproved program is slow, takes more stack, and has an allocator of its own
+        self.given = {"PROGRAM": str(program.path), "STACK": str(PROVED_STACK if is_proved else builder.STACK), "UNPROVED": "" if is_proved else "--unproved", "ALL": "--all" if is_proved else ""}
         self.running, self.lock, self.is_over = {}, threading.Lock(), False
 
     def run(self, test):

@@ -52,7 +52,10 @@ COMMANDS = (
             "this script and by what, and what docs/ANSWERS.md says of it; with a script alone, all components and links"),
     Command("--draw", ("SCRIPT", "SCRIPT INDEX"), READER, "prints the components and links, or a component's table, for Graphviz: `dlcheck --draw SCRIPT | dot -Tsvg`"),
     Command("--page", ("RULE SCRIPT FILE.html",), READER, "writes the report, a picture of the network and a way to step through it as one page for a browser"),
-    Command("--annotate", ("roles SCRIPT", "resource SCRIPT"), READER, "prints the script with annotations that are found from its components' tables; `check` judges the result"),
+    Command("--annotate", ("roles SCRIPT", "resource SCRIPT", "--fresh roles SCRIPT", "--fresh resource SCRIPT"), READER, "prints the script with annotations that are found from its "
+            "components' tables; `check` judges the result. With --fresh as if the script had none of that kind"),
+    Command("--proposals", ("SCRIPT",), READER, "prints a line for each rule that proves the script with the annotations that are proposed for it; the status is 0 where there is one, else 1"),
+    Command("--alphabets", ("SCRIPT",), READER, "prints for each component the events that its text does, beside its alphabet; the status is 0 where all of these are equal, else 1"),
     Command("--version", ("",), "help.version", "the sum of the sources, and the kit that proved them"),
     Command("--help", ("",), "help.show", "prints all commands"),
     Command("--prove", ("",), "proving.prove", "proves and builds the program; later calls run it", is_local=True),

@@ -25,6 +25,10 @@ set -g __dlcheck_forms \
   '--page RULE SCRIPT FILE.html' \
   '--annotate roles SCRIPT' \
   '--annotate resource SCRIPT' \
+  '--annotate --fresh roles SCRIPT' \
+  '--annotate --fresh resource SCRIPT' \
+  '--proposals SCRIPT' \
+  '--alphabets SCRIPT' \
   '--version' \
   '--help' \
   '--uninstall DIR'
@@ -77,13 +81,16 @@ complete -c dlcheck -n '__dlcheck_wants SCRIPT' -a '(__fish_complete_suffix .csp
 complete -c dlcheck -n '__dlcheck_wants SPEC' -a '(__fish_complete_suffix .csp)'
 complete -c dlcheck -n '__dlcheck_wants FILE.html' -a '(__fish_complete_suffix .html)'
 complete -c dlcheck -n '__dlcheck_wants DIR' -a '(__fish_complete_directories)'
+complete -c dlcheck -n '__dlcheck_wants --alphabets' -a '--alphabets' -d 'prints for each component the events that its text does, beside its alphabet'
 complete -c dlcheck -n '__dlcheck_wants --annotate' -a '--annotate' -d 'prints the script with annotations that are found from its components\' tables'
 complete -c dlcheck -n '__dlcheck_wants --any' -a '--any' -d 'checks by each of the three rules, with a line for each'
 complete -c dlcheck -n '__dlcheck_wants --draw' -a '--draw' -d 'prints the components and links, or a component\'s table, for Graphviz'
 complete -c dlcheck -n '__dlcheck_wants --explain' -a '--explain' -d 'the report of check, or of another command of the program with its words, then what breaks the rule in this script and by what, and what docs/ANSWERS.md says of it'
+complete -c dlcheck -n '__dlcheck_wants --fresh' -a '--fresh'
 complete -c dlcheck -n '__dlcheck_wants --help' -a '--help' -d 'prints all commands'
 complete -c dlcheck -n '__dlcheck_wants --install' -a '--install' -d 'the same, and puts the command into DIR, and what belongs to it under DIR/../lib and DIR/../share'
 complete -c dlcheck -n '__dlcheck_wants --page' -a '--page' -d 'writes the report, a picture of the network and a way to step through it as one page for a browser'
+complete -c dlcheck -n '__dlcheck_wants --proposals' -a '--proposals' -d 'prints a line for each rule that proves the script with the annotations that are proposed for it'
 complete -c dlcheck -n '__dlcheck_wants --prove' -a '--prove' -d 'proves and builds the program'
 complete -c dlcheck -n '__dlcheck_wants --prove-by' -a '--prove-by' -d 'check RULE SPEC and conform SCRIPT SPEC over one copy of both'
 complete -c dlcheck -n '__dlcheck_wants --test' -a '--test' -d 'runs the tests over the program that is there'
