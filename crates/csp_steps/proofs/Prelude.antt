@@ -27,15 +27,17 @@ pub use Rattle.csp_program.specs.declared.processes.Proc.TheOpen.{Proc-F}
 pub use Rattle.csp_program.specs.declared.processes.Proc.{Proc}
 pub use Rattle.csp_program.specs.declared.programs.Content.{Content}
 pub use Rattle.csp_steps.specs.Computed.{GivesLook}
-pub use Rattle.csp_steps.specs.Prelude.{Answers, AreAdded, AreAround, AreAt, AreBodies, AreEach, AreFirsts, AreFirstsAfter, AreKept, AreMoves, AreNoted, AreOfChoice, AreSets, AreStepsOf, AreTargets, AreThoseAt, Does, Effect, FaultIs, Fits, GivesEach, GivesMoves, HasGone, HasNumber, HasSet, HasTurned, HasValue, IsBegun, IsListing, IsLook, IsMove, IsNumbered, IsPlaceOf, IsSound, IsTaken, IsTurned, IsWithin, StandsAs, Way, again, all_moves, all_within, around, body_of, effect_as, effect_of, effect_of_layer, eq_step, filled, first, frames_weight, goals, hidden_labels, input_ways, is_blocked, is_by, labels_by, last_by, laws-law, moves_of, name_of, none, process_body, renamed_labels, seen, then_ways, turn_ways, turned_ways, turned_weight, values_left, values_weight, walk_moves, walk_ways, walk_weight, way_move, ways_by_number, weight}
+pub use Rattle.csp_steps.specs.Prelude.{Answers, AreAdded, AreAround, AreAt, AreBodies, AreEach, AreFirsts, AreFirstsAfter, AreKept, AreMoves, AreNoted, AreOfChoice, AreSets, AreStepsOf, AreTargets, AreThoseAt, Does, Effect, FaultIs, Fits, GivesEach, GivesMoves, AreNested, BindsNames, HasGone, HasNumber, HasSet, HasTurned, HasValue, IsAfter, IsBegun, IsListing, IsLonger, IsLook, IsMove, IsNumbered, IsPlaceOf, IsSound, IsTaken, IsTurned, IsUnder, IsWithin, StandsAs, Way, again, all_moves, all_within, around, body_of, effect_as, effect_of, effect_of_layer, eq_step, filled, first, frames_weight, goals, hidden_labels, input_ways, is_blocked, is_by, labels_by, last_by, laws-law, moves_of, name_of, none, process_body, renamed_labels, seen, then_ways, turn_ways, turned_ways, turned_weight, value_in, values_left, values_weight, walk_moves, walk_ways, walk_weight, way_move, ways_by_number, weight}
 unfoldable pub use Rattle.csp_steps.specs.Prelude.{frames_left}
-pub use Rattle.csp_steps.specs.Walked.{GivesNext, nth_event, number_with}
+pub use Rattle.csp_steps.specs.Walked.{GivesNext, nth_event, number_from, number_of, number_with, number_with_value}
 pub use Rattle.csp_steps.specs.declared.around.Round.{Round}
 pub use Rattle.csp_steps.specs.declared.evaluated.Evaluated.{Evaluated}
+pub use Rattle.csp_steps.specs.declared.fields.Next.{Next}
 pub use Rattle.csp_steps.specs.declared.look.Look.{Look}
 pub use Rattle.csp_steps.specs.declared.operator.Operator.{Operator}
 pub use Rattle.csp_steps.specs.declared.sets.Sets.{Sets}
 pub use Rattle.csp_steps.specs.declared.step.StepTo.{StepTo}
+pub use Rattle.csp_steps.specs.declared.walk.FieldValue.{FieldValue}
 pub use Rattle.csp_steps.specs.declared.walk.Frame.{Frame}
 pub use Rattle.csp_steps.specs.declared.walk.Input.{Input}
 pub use Rattle.csp_steps.specs.declared.walk.Turn.{Turn}
@@ -53,7 +55,7 @@ pub use Rattle.process_steps.specs.declared.label.Label.TheVariants.{Silent, Tic
 pub use Rattle.process_steps.specs.declared.label.Label.{Label}
 pub use Rattle.std.proofs.Common.{Bool, Err, List, None, Ok, Option, Some, [], ap, append-nil, append_assoc, arith, cond, drop, eq-eqb, false, get_or, if◌then◌else◌, inl, inr, length, map, nat_eq, not, refl, slice_get, slice_set, subst, suc, sym, take, true, zero, ℕ, ◌*◌, ◌++◌, ◌+◌, ◌<◌, ◌^◌, ◌∙◌, ◌∷◌, ◌≡◌, ◌≤◌, ◌⊎◌}
 pub use Rattle.std.proofs.lemmas.Bool.{eqb-true, ltb-true}
-pub use Rattle.std.proofs.lemmas.List.{nil_from_length}
+pub use Rattle.std.proofs.lemmas.List.{length-take, length-take-le, length_push, nil_from_length, take-append-le, take-take}
 pub use Rattle.std.proofs.lemmas.Result.{IfOk-weaker}
 pub use Rattle.std.specs.Cmp.{first_so, second_so}
 pub use Rattle.std.specs.Option.{option_copied}

@@ -6,6 +6,6 @@ pub use Rattle.csp_steps.specs.ExactStep.{eq_step}
 pub use Rattle.csp_steps.specs.Listed.{AreStepsOf, FaultIs, seen}
 pub use Rattle.csp_steps.specs.Order.AreFirstsAfter.{again, first, none}
 pub use Rattle.csp_steps.specs.Order.{AreFirsts, AreFirstsAfter, AreTargets, goals, is_by}
-pub use Rattle.csp_steps.specs.Walked.{GivesNext, GivesRound, GivesTurned, HasGone, HasTurned, IsBegun, IsSound, IsTaken, IsTurned, Way, filled, frames_weight, input_ways, is_blocked, is_plain, name_of, next_weight, nth_event, number_with, then_ways, turn_ways, turned_ways, turned_weight, values_left, values_weight, walk_moves, walk_ways, walk_weight, way_move, ways_by_number, weight}
+pub use Rattle.csp_steps.specs.Walked.{AreNested, BindsNames, GivesNext, GivesRound, GivesTurned, HasGone, HasTurned, IsAfter, IsBegun, IsLonger, IsSound, IsTaken, IsTurned, IsUnder, Way, filled, frames_weight, input_ways, is_blocked, is_plain, name_of, next_weight, nth_event, number_from, number_of, number_with, number_with_value, then_ways, turn_ways, turned_ways, turned_weight, value_in, values_left, values_weight, walk_moves, walk_ways, walk_weight, way_move, ways_by_number, weight}
 unfoldable pub use Rattle.csp_steps.specs.Walked.{frames_left}
 pub use Rattle.csp_steps.specs.contracts.step.StepToEq.TheImpl.Laws.{laws-law}

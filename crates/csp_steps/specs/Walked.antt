@@ -1,6 +1,7 @@
 -- What a walk over the ways to fill the fields of a prefix still comes to, for the contracts of the functions that make it.
-use Rattle.std.specs.Prelude.{◌≡◌, ◌<◌, ℕ, ◌+◌, ◌*◌, ◌-◌, ◌^◌, min, Bool, true, false, Option, Some, None, Result, Ok, Err, List, [], ◌∷◌, ◌++◌, map, drop, length}
+use Rattle.std.specs.Prelude.{◌≡◌, ◌<◌, ℕ, ◌+◌, ◌*◌, ◌-◌, ◌≤◌, ◌^◌, min, Bool, true, false, Option, Some, None, Result, Ok, Err, List, [], ◌∷◌, ◌++◌, map, drop, length, take}
 use Rattle.csp_atoms.specs.declared.atom.Atom.{Atom}
+use Rattle.csp_atoms.specs.declared.value.Value.{Value}
 use Rattle.csp_atoms.specs.declared.value.Value.TheVariants.{One}
 use Rattle.csp_program.specs.Prelude.{Outcome, and_then, given_by, proc_with, Env}
 use Rattle.csp_program.specs.declared.kinds.ValueKind.TheVariants.{OutsideChannel}
@@ -20,6 +21,7 @@ use Rattle.csp_steps.specs.Listed.{seen}
 use Rattle.csp_steps.specs.declared.fields.Next.{Next}
 use Rattle.csp_steps.specs.declared.fields.Next.TheVariants as next
 use Rattle.csp_steps.specs.declared.step.StepTo.{StepTo}
+use Rattle.csp_steps.specs.declared.walk.FieldValue.{FieldValue}
 use Rattle.csp_steps.specs.declared.walk.Frame.{Frame}
 use Rattle.csp_steps.specs.declared.walk.Input.{Input}
 use Rattle.csp_steps.specs.declared.walk.Turn.{Turn}
@@ -46,6 +48,22 @@ is_plain (field.Get x (Some s)) = false
 -- event has a number beyond.
 abbrev pub number_with : ℕ → List Atom → ℕ → ℕ
 number_with n set k = min (n * length set + k) (2 ^ 64 - 1)
+
+-- The same of a value that is kept with the number of values of its field.
+abbrev pub number_with_value : ℕ → FieldValue → ℕ
+number_with_value n v = min (n * v.count + v.place) (2 ^ 64 - 1)
+
+-- the number that values of fields give an event among those of its channel, where the fields before them have the number n
+abbrev pub number_from : ℕ → List FieldValue → ℕ
+number_from n [] = n
+number_from n (v ∷ values) = number_from (number_with_value n v) values
+
+abbrev pub number_of : List FieldValue → ℕ
+number_of values = number_from 0 values
+
+-- a value of a field
+abbrev pub value_in : List Atom → Value → Outcome FieldValue
+value_in set v = and_then (field_place set v) (λ k. Ok (record { place = k; count = length set }))
 
 -- a way to fill fields: the names that are bound with their values, and the number of its event among those of the prefix
 abbrev pub Way : Type 0
@@ -79,47 +97,73 @@ abbrev pub then_ways : Outcome (List Way) → Outcome (List Way) → Outcome (Li
 then_ways first second = and_then first (λ ways. and_then second (λ more. Ok (ways ++ more)))
 
 module _ (p : Content) where
-  -- those of the fields on turn
-  abbrev pub turn_ways : Env → Turn → Outcome (List Way)
-  turn_ways env t = ways_by_number p t.sets.now t.fields.now env t.number
+  -- those of the fields on turn, where the fields before them have the number n
+  abbrev pub turn_ways : Env → ℕ → Turn → Outcome (List Way)
+  turn_ways env n t = ways_by_number p t.sets.now t.fields.now env n
 
-  abbrev pub turned_ways : Env → Option Turn → Outcome (List Way)
-  turned_ways env None = Ok []
-  turned_ways env (Some t) = turn_ways env t
+  abbrev pub turned_ways : Env → ℕ → Option Turn → Outcome (List Way)
+  turned_ways env n None = Ok []
+  turned_ways env n (Some t) = turn_ways env n t
 
   -- those of the value a of an input, which has the place k in the set of the field
-  abbrev pub input_ways : Env → Input → ℕ → Atom → Outcome (List Way)
-  input_ways env i = where_given i.given (λ k a. ways_by_number p i.sets.now i.fields.now ((i.name, One a) ∷ env) (number_with i.number i.set.now k))
+  abbrev pub input_ways : Env → ℕ → Input → ℕ → Atom → Outcome (List Way)
+  input_ways env n i = where_given i.given (λ k a. ways_by_number p i.sets.now i.fields.now ((i.name, One a) ∷ env) (number_with n i.set.now k))
 
   -- those of its values from a place on
-  abbrev pub values_left : Env → Input → ℕ → Outcome (List Way)
-  values_left env i k = each_joined (input_ways env i) k (drop k i.set.now)
+  abbrev pub values_left : Env → ℕ → Input → ℕ → Outcome (List Way)
+  values_left env n i k = each_joined (input_ways env n i) k (drop k i.set.now)
 
   -- those of what comes next
-  abbrev pub next_ways : Env → Next → Outcome (List Way)
-  next_ways env (next.End n) = Ok ((env, n) ∷ [])
-  next_ways env (next.Input i) = values_left env i 0
+  abbrev pub next_ways : Env → ℕ → Next → Outcome (List Way)
+  next_ways env n next.End = Ok ((env, n) ∷ [])
+  next_ways env n (next.Input i) = values_left env n i 0
 
   -- those that are left to the values of inputs under which a walk stands, the last input first, and then the rest
-  unfoldable pub frames_left : List Frame → Env → Outcome (List Way) → Outcome (List Way)
-  frames_left [] env rest = rest
-  frames_left (f ∷ frames) env rest = frames_left frames ((f.input.name, One f.atom) ∷ env) (then_ways (values_left env f.input f.next) rest)
+  unfoldable pub frames_left : List FieldValue → List Frame → Env → Outcome (List Way) → Outcome (List Way)
+  frames_left values [] env rest = rest
+  frames_left values (f ∷ frames) env rest =
+      frames_left values frames ((f.input.name, One f.atom) ∷ env) (then_ways (values_left env (number_of (take f.input.before values)) f.input f.next) rest)
 
   -- all that are left to a walk
   abbrev pub walk_ways : Walk → Outcome (List Way)
-  walk_ways walk = then_ways (turned_ways (with_bound walk.bound.items []) walk.turn) (frames_left walk.frames [] (Ok []))
+  walk_ways walk = then_ways (turned_ways (with_bound walk.bound.items []) (number_of walk.values.items) walk.turn) (frames_left walk.values.items walk.frames [] (Ok []))
 
--- what a call answers that goes through the outputs at the front of fields
-abbrev pub GivesNext : Content → Env → Result Next EvalFault → Outcome (List Way) → Type 0
-GivesNext p env result ways = Answers (λ n. ways ≡ next_ways p env n) result ways
+-- what a call answers that goes through the outputs at the front of fields, which have the number n
+abbrev pub GivesNext : Content → Env → ℕ → Result Next EvalFault → Outcome (List Way) → Type 0
+GivesNext p env n result ways = Answers (λ found. ways ≡ next_ways p env n found) result ways
+
+-- an input stands after so many fields
+abbrev pub IsAfter : ℕ → Next → Type 0
+IsAfter n next.End = Unit {0}
+IsAfter n (next.Input i) = i.before ≡ n
+
+-- the values of fields with those of more fields
+abbrev pub IsLonger : List FieldValue → List FieldValue → Type 0
+IsLonger old new = take (length old) new ≡ old
 
 -- the name that an input binds, with the value on turn
 abbrev pub name_of : Frame → ℕ × Atom
 name_of f = (f.input.name, f.atom)
 
 -- a walk binds the names of its inputs
-abbrev pub IsSound : Walk → Type 0
-IsSound walk = walk.bound.items ≡ map name_of walk.frames
+abbrev pub BindsNames : Walk → Type 0
+BindsNames walk = walk.bound.items ≡ map name_of walk.frames
+
+-- the inputs stand one after another, after the first so many fields and within so many
+abbrev pub AreNested : ℕ → List Frame → ℕ → Type 0
+AreNested low [] high = low ≤ high
+AreNested low (f ∷ frames) high = (low ≤ f.input.before) × AreNested f.input.before frames high
+
+-- and has the values of all fields before what comes next
+pub record IsSound (walk : Walk) : Type 0 where
+  pub names : BindsNames walk
+  pub nested : AreNested 0 walk.frames (length walk.values.items)
+
+-- an input stands after those of a walk, which has the values of all fields before it
+pub record IsUnder (walk : Walk) (input : Input) : Type 0 where
+  pub names : BindsNames walk
+  pub nested : AreNested 0 walk.frames input.before
+  pub within : input.before ≤ length walk.values.items
 
 -- How many turns a walk still takes at most: with each value of an input, one for it and those of the fields after it.
 abbrev pub values_weight : ℕ → List Atom → ℕ
@@ -142,20 +186,22 @@ abbrev pub walk_weight : Walk → ℕ
 walk_weight walk = turned_weight walk.turn + frames_weight walk.frames
 
 abbrev pub next_weight : Next → ℕ
-next_weight (next.End n) = 1
+next_weight next.End = 1
 next_weight (next.Input i) = weight (i.set.now ∷ i.sets.now)
 
 -- a walk that begins
 pub record IsBegun (start : Turn) (walk : Walk) : Type 0 where
   pub bound : walk.bound.items ≡ []
+  pub values : walk.values.items ≡ []
   pub frames : walk.frames ≡ []
   pub turn : walk.turn ≡ Some start
 
 -- the walk without its last input, and without the name that this binds
 pub record IsWithout (old new : Walk) (last : Frame) : Type 0 where
   pub frames : old.frames ≡ new.frames ++ last ∷ []
+  pub values : old.values ≡ new.values
   pub turn : old.turn ≡ new.turn
-  pub sound : IsSound old → IsSound new
+  pub names : BindsNames old → BindsNames new
 
 abbrev pub IsPopped : Walk → Walk → Option Frame → Type 0
 IsPopped old new None = old.frames ≡ []
@@ -164,7 +210,9 @@ IsPopped old new (Some f) = IsWithout old new f
 -- The walk stands under an input with its value at the place k, or goes on where the input has no more: it still comes to the values from that place
 -- on, and then to what is left to the inputs before.
 pub record IsTaken (old new : Walk) (input : Input) (k : ℕ) : Type 0 where
-  pub ways : (p : Content) → then_ways (values_left p (with_bound old.bound.items []) input k) (frames_left p old.frames [] (Ok [])) ≡ walk_ways p new
+  pub ways : (p : Content)
+      → then_ways (values_left p (with_bound old.bound.items []) (number_of (take input.before old.values.items)) input k) (frames_left p old.values.items old.frames [] (Ok []))
+      ≡ walk_ways p new
   pub sound : IsSound new
   pub less : walk_weight new < values_weight (weight input.sets.now) (drop k input.set.now) + frames_weight old.frames
 
@@ -176,7 +224,7 @@ pub record HasTurned (p : Content) (found : List Way) (old new : Walk) : Type 0 
 
 -- what a turn of a walk comes to
 abbrev pub IsTurned : Content → Walk → Walk → Turned → Type 0
-IsTurned p old new (turned.Way n) = HasTurned p ((with_bound new.bound.items [], n) ∷ []) old new
+IsTurned p old new turned.Way = HasTurned p ((with_bound new.bound.items [], number_of new.values.items) ∷ []) old new
 IsTurned p old new turned.On = HasTurned p [] old new
 IsTurned p old new turned.End = walk_ways p old ≡ Ok []
 

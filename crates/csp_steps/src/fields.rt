@@ -1,16 +1,15 @@
 //! What comes next in the fields of a prefix, under the values of the inputs before.
 
-ghost use Rattle.std.specs.Prelude.{◌≡◌, ◌≤◌, [], IfOk, Ok, OnOk};
+ghost use Rattle.std.specs.Prelude.{ℕ, ◌≡◌, ◌≤◌, [], length, IfOk, OnOk};
 ghost use Rattle.csp_program.specs.Prelude.{and_then, Env};
 ghost use Rattle.csp_program.specs.declared.programs.Content.{Content};
 ghost use Rattle.process_steps.specs.Prefix as meant;
-ghost use Rattle.value_laws.specs.Numbers.{field_place};
 ghost use Rattle.value_operators.specs.Env.{with_bound};
 ghost use Rattle.value_operators.specs.Gives.{Gives};
-ghost use Rattle.csp_steps.specs.Prelude.{AreSets, is_blocked, is_plain, next_weight, number_with, turn_ways, ways_by_number, weight, GivesNext};
+ghost use Rattle.csp_steps.specs.Prelude.{AreSets, is_blocked, is_plain, next_weight, number_of, turn_ways, value_in, ways_by_number, weight, GivesNext, IsAfter, IsLonger};
 
 use crate::sets::{Sets, copy_set};
-use crate::walk::{Input, Turn};
+use crate::walk::{FieldValue, FieldValues, Input, Turn, add_value};
 use csp_atoms::{Atom, AtomSet, Value};
 use csp_base::Stop;
 use csp_program::{Expr, Field, Program, ValueKind};
@@ -18,7 +17,7 @@ use csp_values::{EvalResult, eval_under};
 use std::alloc::Global;
 use step_values::Start;
 use term_pool::ProcId;
-use value_operators::numbers::{place_in, with_field};
+use value_operators::numbers::place_in;
 use value_operators::operators::to_set;
 
 /// What the fields of a prefix are filled over.
@@ -37,8 +36,8 @@ pub(crate) struct Filling<'a> {
 /// What comes after the outputs at the front of some fields.
 #[derive(Drop)]
 pub(crate) enum Next<'a> {
-    /// Nothing: this is the number of the fields.
-    End(u64),
+    /// Nothing.
+    End,
     /// An input.
     Input(Input<'a>),
 }
@@ -122,63 +121,62 @@ fn values_given(
     }
 }
 
-/// The number of fields with one more, which has `place` in its set. Counting stops at the end of 64 bits.
-pub(crate) fn number_after(number: u64, set: &AtomSet, place: u64) -> u64
-    ensures { result ≡ number_with number set.now place }
-{
-    with_field(number, set, place, 1)
-}
-
-// The number of fields with one more, which has the value of an output.
-fn number_with_output(
+// The value of an output, among those of its field.
+fn value_of_output(
     filling: &Filling<'_>,
     bound: &[(u32, Atom)],
     set: &AtomSet,
     output: &Expr,
-    number: u64,
-) -> EvalResult<u64>
+) -> EvalResult<FieldValue>
     ensures { Gives result (and_then (meant.value_under filling.now.program.now (with_bound bound.now []) output.now)
-        (λ v. and_then (field_place set.now v) (λ k. Ok (number_with number set.now k)))) }
+        (value_in set.now)) }
 {
     let value = value_under(filling, bound, output)?;
     let place = place_in(set, &value)?;
-    Ok(number_after(number, set, place))
+    Ok(FieldValue {
+        place,
+        count: set.len() as u64,
+    })
 }
 
 // What comes after outputs where no set is left.
-fn end_of<'a>(fields: &[Field], number: u64) -> EvalResult<Next<'a>>
-    ensures next { (p : Content) → (env : Env) → GivesNext p env result (ways_by_number p [] fields.now env number) }
+fn end_of<'a>(fields: &[Field]) -> EvalResult<Next<'a>>
+    ensures next { (p : Content) → (env : Env) → (n : ℕ) → GivesNext p env n result (ways_by_number p [] fields.now env n) }
+    ensures before { (n : ℕ) → IfOk result (IsAfter n) }
     ensures less { IfOk result (λ next. next_weight next ≡ 1) }
 {
     if fields.is_empty() {
-        return Ok(Next::End(number));
+        return Ok(Next::End);
     }
     Err(Stop::Told(ValueKind::OutsideChannel))
 }
 
-/// What comes after the outputs at the front of the fields that are on turn.
+/// What comes after the outputs at the front of the fields that are on turn. The values of these outputs are added.
 pub(crate) fn next_of<'a>(
     filling: &Filling<'_>,
     kept: &mut Sets,
     bound: &[(u32, Atom)],
+    values: &mut FieldValues,
     turn: &Turn<'a>,
 ) -> EvalResult<Next<'a>>
     requires { AreSets filling.now.program.now kept.old }
     ensures kept { OnOk result (AreSets filling.now.program.now kept.new) }
-    ensures next { GivesNext filling.now.program.now (with_bound bound.now []) result
-        (turn_ways filling.now.program.now (with_bound bound.now []) turn.now) }
+    ensures next { GivesNext filling.now.program.now (with_bound bound.now []) (number_of values.new.items) result
+        (turn_ways filling.now.program.now (with_bound bound.now []) (number_of values.old.items) turn.now) }
+    ensures longer { OnOk result (IsLonger values.old.items values.new.items) }
+    ensures before { IfOk result (IsAfter (length values.new.items)) }
     ensures less { IfOk result (λ next. next_weight next ≤ weight turn.now.sets.now) }
 {
     let mut sets = turn.sets;
     let mut fields = turn.fields;
-    let mut number = turn.number;
     while let Some((set, rest)) = sets.split_first() {
         let Some((field, later)) = fields.split_first() else {
             return Err(Stop::Told(ValueKind::OutsideChannel));
         };
         match field {
             Field::Put(output) => {
-                number = number_with_output(filling, bound, set, output, number)?;
+                let value = value_of_output(filling, bound, set, output)?;
+                add_value(values, value)?;
                 sets = rest;
                 fields = later;
             }
@@ -190,10 +188,10 @@ pub(crate) fn next_of<'a>(
                     given,
                     sets: rest,
                     fields: later,
-                    number,
+                    before: values.len(),
                 }));
             }
         }
     }
-    end_of(fields, number)
+    end_of(fields)
 }

@@ -1,18 +1,20 @@
 //! The ways to fill the fields of a prefix.
 
-ghost use Rattle.std.specs.Prelude.{◌≡◌, ◌<◌, ◌≤◌, ◌++◌, ◌∷◌, [], true, length, map, OnOk, Some};
+ghost use Rattle.std.specs.Prelude.{ℕ, ◌≡◌, ◌<◌, ◌≤◌, ◌++◌, ◌∷◌, [], true, length, map, OnOk, Some};
 ghost use Rattle.csp_atoms.specs.declared.value.Value.TheVariants as value;
 ghost use Rattle.csp_program.specs.Prelude.{Env};
 ghost use Rattle.csp_program.specs.declared.programs.Content.{Content};
 ghost use Rattle.process_steps.specs.Prefix as meant;
 ghost use Rattle.term_pool.specs.Prelude.{IsFront, tree_at};
 ghost use Rattle.value_operators.specs.Env.{with_bound};
-ghost use Rattle.csp_steps.specs.Prelude.{all_within, AreMoves, GivesMoves, AreSets, seen, filled, input_ways, nth_event, turned_ways, turned_weight, way_move, ways_by_number, weight, GivesRound, GivesTurned, IsSound, IsTaken};
+ghost use Rattle.csp_steps.specs.Prelude.{all_within, AreMoves, GivesMoves, AreSets, seen, filled, input_ways, nth_event, number_of, number_with, turned_ways, turned_weight, way_move, ways_by_number, weight, GivesRound, GivesTurned, IsSound, IsTaken, IsUnder};
 
-use crate::fields::{Filling, Next, are_blocked, next_of, number_after};
+use crate::fields::{Filling, Next, are_blocked, next_of};
 use crate::sets::Sets;
 use crate::step::StepTo;
-use crate::walk::{Frame, Input, Turn, Turned, Walk, begin, bind, pop};
+use crate::walk::{
+    FieldValue, Frame, Input, Turn, Turned, Walk, add_value, begin, bind, number_of, pop,
+};
 use containers::Items;
 use csp_atoms::{Atom, AtomSet};
 use csp_base::{Event, Made};
@@ -34,10 +36,11 @@ fn is_given(given: &Option<AtomSet>, atom: Atom) -> bool
     }
 }
 
-// What comes after an input that takes the value at a place; nothing, where it may not take it.
-fn turn_after<'a>(input: &Input<'a>, place: usize, atom: &Atom) -> Option<Turn<'a>>
-    ensures ways { (p : Content) → (env : Env) → turned_ways p ((input.now.name, value.One atom.now) ∷ env) result
-        ≡ input_ways p env input.now place atom.now }
+// What comes after an input that takes a value; nothing, where it may not take it.
+fn turn_after<'a>(input: &Input<'a>, atom: &Atom) -> Option<Turn<'a>>
+    ensures ways { (p : Content) → (env : Env) → (n k : ℕ)
+        → turned_ways p ((input.now.name, value.One atom.now) ∷ env) (number_with n input.now.set.now k) result
+        ≡ input_ways p env n input.now k atom.now }
     ensures less { turned_weight result ≤ weight input.now.sets.now }
 {
     if !is_given(&input.given, *atom) {
@@ -46,22 +49,27 @@ fn turn_after<'a>(input: &Input<'a>, place: usize, atom: &Atom) -> Option<Turn<'
     Some(Turn {
         sets: input.sets,
         fields: input.fields,
-        number: number_after(input.number, input.set, place as u64),
     })
 }
 
 // Lets an input take the value at a place, where there is one.
 fn take<'a>(walk: &mut Walk<'a>, input: Input<'a>, place: usize) -> Made<()>
-    requires { IsSound walk.old }
+    requires { IsUnder walk.old input }
     ensures { OnOk result (IsTaken walk.old walk.new input.entry place) }
 {
     // Its contract says that the number of the values, and so the place after each of them, is one of this type.
-    let _ = input.set.len();
+    let count = input.set.len();
+    walk.values.truncate(input.before);
     let Some(atom) = input.set.get(place) else {
         walk.turn = None;
         return Ok(());
     };
-    walk.turn = turn_after(&input, place, &atom);
+    let value = FieldValue {
+        place: place as u64,
+        count: count as u64,
+    };
+    add_value(&mut walk.values, value)?;
+    walk.turn = turn_after(&input, &atom);
     bind(&mut walk.bound, input.name, atom)?;
     let frame = Frame {
         input,
@@ -85,10 +93,10 @@ fn go_on<'a>(
     ensures turned { GivesTurned result filling.now.program.now walk.old walk.new }
     ensures sets { OnOk result (AreSets filling.now.program.now sets.new) }
 {
-    match next_of(filling, sets, walk.bound.as_slice(), turn)? {
-        Next::End(number) => {
+    match next_of(filling, sets, walk.bound.as_slice(), &mut walk.values, turn)? {
+        Next::End => {
             walk.turn = None;
-            Ok(Turned::Way(number))
+            Ok(Turned::Way)
         }
         Next::Input(input) => {
             take(walk, input, 0)?;
@@ -173,7 +181,8 @@ fn turn_on(
     ensures front { IsFront pool.old pool.new }
 {
     match advance(filling, sets, walk)? {
-        Turned::Way(number) => {
+        Turned::Way => {
+            let number = number_of(walk.values.as_slice());
             add_way(filling, pool, walk.bound.as_slice(), number, steps)?;
             Ok(true)
         }
@@ -204,7 +213,6 @@ pub(crate) fn prefix_steps(
     let first = Turn {
         sets: sets_of_fields,
         fields,
-        number: 0,
     };
     let mut walk = begin(filling.alloc, first);
     'turns: while turn_on(filling, pool, sets, &mut walk, &mut steps)? {}

@@ -1,7 +1,7 @@
 //! Where a walk over the ways to fill the fields of a prefix stands, with a stack of its own: no number of inputs costs stack of the program.
 
 ghost use Rattle.std.specs.Prelude.{◌≡◌, ◌++◌, ◌∷◌, [], OnOk};
-ghost use Rattle.csp_steps.specs.Walked.{IsBegun, IsPopped};
+ghost use Rattle.csp_steps.specs.Walked.{IsBegun, IsPopped, number_of, number_with_value};
 
 use containers::Items;
 use csp_atoms::{Atom, AtomSet};
@@ -17,9 +17,19 @@ pub(crate) struct Turn<'a> {
     pub sets: &'a [AtomSet],
     /// The fields.
     pub fields: &'a [Field],
-    /// The number of the fields before them.
-    pub number: u64,
 }
+
+/// The value of a field of an event.
+#[derive(Clone, Copy, Default)]
+pub(crate) struct FieldValue {
+    /// Its place among the values of the field.
+    pub place: u64,
+    /// The number of values of the field.
+    pub count: u64,
+}
+
+/// The values of the first fields of an event, outputs and inputs alike. Most events have few fields.
+pub(crate) type FieldValues = SmallVec<FieldValue, 4>;
 
 /// An input.
 #[derive(Drop)]
@@ -34,8 +44,8 @@ pub(crate) struct Input<'a> {
     pub sets: &'a [AtomSet],
     /// The fields after it.
     pub fields: &'a [Field],
-    /// The number of the fields before it.
-    pub number: u64,
+    /// How many fields stand before it.
+    pub before: usize,
 }
 
 /// An input under which a walk stands.
@@ -52,8 +62,10 @@ pub(crate) struct Frame<'a> {
 /// A walk over the ways to fill fields, in nested loops.
 #[derive(Drop)]
 pub(crate) struct Walk<'a> {
-    /// The names that are bound with their values, the last one bound at the end. Most events have few fields.
+    /// The names that are bound with their values, the last one bound at the end.
     pub bound: SmallVec<(u32, Atom), 4>,
+    /// The values of the fields that are filled.
+    pub values: FieldValues,
     /// The inputs that bind them.
     pub frames: Items<Frame<'a>>,
     /// The fields that come next; none where the last input goes on.
@@ -63,8 +75,8 @@ pub(crate) struct Walk<'a> {
 /// What a walk comes to by one turn.
 #[derive(Clone, Copy)]
 pub(crate) enum Turned {
-    /// To the end of the fields: this is their number, under the names that are bound.
-    Way(u64),
+    /// To the end of the fields, with their values and the names that are bound.
+    Way,
     /// To other fields.
     On,
     /// To its own end.
@@ -77,6 +89,7 @@ pub(crate) fn begin<'a>(alloc: Global, turn: Turn<'a>) -> Walk<'a>
 {
     Walk {
         bound: SmallVec::new(alloc),
+        values: SmallVec::new(alloc),
         frames: Items::new(alloc),
         turn: Some(turn),
     }
@@ -90,6 +103,35 @@ pub(crate) fn bind(bound: &mut SmallVec<(u32, Atom), 4>, name: u32, atom: Atom) 
         Ok(()) => Ok(()),
         Err(_) => Err(NoMemory),
     }
+}
+
+/// Adds the value of one more field.
+pub(crate) fn add_value(values: &mut FieldValues, value: FieldValue) -> Made<()>
+    ensures { OnOk result (values.new.items ≡ values.old.items ++ value ∷ []) }
+{
+    match values.push(value) {
+        Ok(()) => Ok(()),
+        Err(_) => Err(NoMemory),
+    }
+}
+
+// The number of fields with one more. Counting stops at the end of 64 bits.
+fn number_with_value(number: u64, value: FieldValue) -> u64
+    ensures { result ≡ number_with_value number value }
+{
+    let before = number.saturating_mul(value.count);
+    before.saturating_add(value.place)
+}
+
+/// The number that an event with these values has among the events of its channel.
+pub(crate) fn number_of(values: &[FieldValue]) -> u64
+    ensures { result ≡ number_of values.now }
+{
+    let mut number: u64 = 0;
+    for value in values {
+        number = number_with_value(number, *value);
+    }
+    number
 }
 
 /// The last input under which the walk stands; it is taken away, and its value.

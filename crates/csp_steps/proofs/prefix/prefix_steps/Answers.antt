@@ -1,6 +1,6 @@
-use Rattle.csp_steps.proofs.Prelude.{List, [], length, map, Ok, ap, sym, ◌∙◌, tree_at, all_within, seen, filled, name_of, StepTo}
+use Rattle.csp_steps.proofs.Prelude.{List, [], length, map, Ok, ap, sym, ◌∙◌, tree_at, all_within, seen, filled, StepTo}
 use Rattle.csp_steps.proofs.Places.{front_same, still_within}
-use Rattle.csp_steps.proofs.Walking.{begins, no_ways}
+use Rattle.csp_steps.proofs.Walking.{begins, begins_sound, no_ways}
 use Rattle.csp_steps.proofs.prefix.prefix_steps.Goals as goal
 
 pub returns-then-are_blocked-clause-steps : goal.returns-then-are_blocked-clause-steps
@@ -13,7 +13,7 @@ returns-then-are_blocked-clause-steps c = record {
 pub turns-init : goal.turns-init
 turns-init c = record {
   front = front_same c.args.pool.now;
-  sound = c.begin-walk.ensures.bound ∙ ap (map name_of) (sym c.begin-walk.ensures.frames);
+  sound = begins_sound _ c.begin-walk.result c.begin-walk.ensures;
   sets = c.requires.sets;
   within = ap (all_within (length c.args.pool.now)) c.new-steps.ensures;
   moves = begins c.args.filling.now.program.now c.args.filling.now.start.now.first c.args.filling.now.to c.args.pool.now _ c.begin-walk.result c.new-steps.result c.begin-walk.ensures c.new-steps.ensures;
