@@ -37,20 +37,16 @@ def shown(name):
 def say(text):
     """A line of the command itself. Where even that can't be written, nobody reads it."""
     with contextlib.suppress(OSError):
-        write_all(2, f"dlcheck: {text}\n")
+        write_all(2, f"dlcheck: {text}\n".encode(errors="replace"))
 
 
 def tell(text):
-    """A line of a report. One that can't be written ends the command as it ends the program."""
-    try:
-        write_all(1, text + "\n")
-    except OSError:
-        say("the report could not be written")
-        raise Ended(NOT_WRITTEN) from None
+    """A line of a report."""
+    tell_bytes(f"{text}\n".encode(errors="replace"))
 
 
 def tell_bytes(text):
-    """A report as the program printed it."""
+    """A report as it is. One that can't be written ends the command as it ends the program."""
     try:
         write_all(1, text)
     except OSError:
@@ -58,8 +54,7 @@ def tell_bytes(text):
         raise Ended(NOT_WRITTEN) from None
 
 
-def write_all(descriptor, text):
-    rest = text if isinstance(text, bytes) else text.encode(errors="replace")
+def write_all(descriptor, rest):
     while rest:
         rest = rest[os.write(descriptor, rest):]
 
@@ -113,10 +108,10 @@ class Progress:
         if self.is_terminal and self.seconds() != self.last:
             self.last, self.is_shown = self.seconds(), True
             with contextlib.suppress(OSError):
-                write_all(2, f"\r\033[Kdlcheck: {what}: {self.last} s")
+                write_all(2, f"\r\033[Kdlcheck: {what}: {self.last} s".encode())
 
     def clear(self):
         if self.is_shown:
             self.is_shown = False
             with contextlib.suppress(OSError):
-                write_all(2, "\r\033[K")
+                write_all(2, b"\r\033[K")

@@ -2,7 +2,7 @@
 import os, signal, subprocess, sys
 
 import builder, sources, stamps
-from console import Fault, Stopped, say, shown
+from console import Fault, Stopped, say, shown, tell_bytes
 from places import HOME, IS_REPOSITORY, PROVED, PROVED_STAMP, TOP
 from words import PROGRAM, find, program_usage, scripts_in
 
@@ -71,7 +71,7 @@ class Program:
         self.settle()
         if self.state == OPEN and (told := self.told_without(words)):
             if into is None:
-                os.write(1, told[1])
+                tell_bytes(told[1])
             return told
         self.have()
         if not self.path:

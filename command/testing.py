@@ -45,7 +45,7 @@ class Runs:
     def __init__(self, program):
         is_proved = program.state == PROVEN
         # an unproved program is slow, takes more stack, and has an allocator of its own
-        self.given = {"PROGRAM": str(program.path), "STACK": str(PROVED_STACK if is_proved else builder.STACK), "UNPROVED": "" if is_proved else "--unproved", "ALL": "--all" if is_proved else ""}
+        self.given = {"PROGRAM": str(program.path), "STACK": str(PROVED_STACK if is_proved else builder.STACK), "UNPROVED": "" if is_proved else "--unproved", "ALL": "--all" if is_proved else "--few"}
         self.running, self.lock, self.is_over = {}, threading.Lock(), False
 
     def run(self, test):
