@@ -33,7 +33,8 @@ def answer(program, words, explains=False):
         networks = [network or Network(program, file) for network, file in zip(networks, files)]
     own = networks[-1] if told.specification and networks else networks[0] if networks else None
     found = blank(words[0], files, told.rule, told.status, called(told, report))
-    found.update(number=int(told.number) if told.number.isdigit() else None, condition=told.condition, reason=reason_of(told, report), name=told.event, counts=counts_of(report) if told.status == 0 else None,
+    found.update(number=int(told.number) if told.number.isdigit() else None, condition=told.condition, reason=reason_of(told, report), name=told.event)
+    found.update(counts=counts_of(report) if told.status == 0 else None,
                  repair=repair_of(told), explanation=explanation(told, *networks) if explains and networks else [])
     if own and told.status in (1, 2):
         found.update(declaration=told.declaration, components=[component(own, part, told) for part in told.components], links=[link(own, *ends) for ends in told.links],
@@ -47,8 +48,8 @@ def answer(program, words, explains=False):
 def blank(command, files, rule, status, name):
     """An object with what every one has; nothing elsewhere."""
     return {
-        "command": command, "script": files[0] if files else None, "specification": files[1] if len(files) > 1 else None, "rule": rule, "status": status, "answer": name, "number": None, "condition": None,
-        "reason": None, "file": None, "line": None, "column": None, "declaration": None, "name": None, "components": [], "links": [], "circle": None, "counts": None, "repair": None, "run": None,
+        "command": command, "script": files[0] if files else None, "specification": files[1] if len(files) > 1 else None, "rule": rule, "status": status, "answer": name,
+        "number": None, "condition": None, "reason": None, "file": None, "line": None, "column": None, "declaration": None, "name": None, "components": [], "links": [], "circle": None, "counts": None, "repair": None, "run": None,
         "explanation": [], "rules": [],
     }
 
