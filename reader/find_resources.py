@@ -5,7 +5,8 @@ It proves nothing: whether an annotation meets the rule is told by `check`."""
 import collections
 
 from find_roles import Fault, Turns, circle_of
-from texts import listed
+from searches import Reached
+from texts import listed, trace_text
 
 # The events that acquire a resource, and those that release it.
 Use = collections.namedtuple("Use", "acquire release")
@@ -15,22 +16,22 @@ class Held:
     """A component's table beside who holds it, if it is a resource: the link of the event by which it was acquired, or nothing."""
 
     def __init__(self, table, link_of):
-        self.before, self.possible, self.foreign = {(0, None): None}, ({}, {}), None
-        waiting = collections.deque(self.before)
-        while waiting:
-            node, holder = state = waiting.popleft()
-            for event, to in table.nodes[node].steps:
+        def steps(state):
+            for event, to in table.nodes[state[0]].steps:
+                link, holder = link_of.get(event), state[1]
+                yield event, (to, holder if link is None else link if holder is None else None)
+
+        self.reached, self.possible, self.foreign = Reached((0, None), steps), ({}, {}), None
+        for state in self.reached:
+            for event, _ in table.nodes[state[0]].steps:
                 link = link_of.get(event)
                 if link is not None:
-                    self.possible[holder is not None].setdefault(event, state)
-                    if holder is not None and link != holder:
+                    self.possible[state[1] is not None].setdefault(event, state)
+                    if state[1] not in (None, link):
                         self.foreign = self.foreign or (event, state)
-                after = (to, holder if link is None else link if holder is None else None)
-                if after not in self.before:
-                    self.before[after] = (state, event)
-                    waiting.append(after)
 
-    trace = Turns.trace
+    def trace(self, state):
+        return trace_text(self.reached.trace(state))
 
 
 class Uses:
@@ -99,7 +100,7 @@ class Uses:
         offers = collections.defaultdict(list)
         for node, offer in self.waits[part]:
             offers[node].append(offer)
-        for node, holder in held.before:
+        for node, holder in held.reached:
             wanted = use.acquire if holder is None else use.release & set(self.links[holder].events)
             for offer in offers[node]:
                 if not offer >= wanted:

@@ -3,6 +3,7 @@
 It proves nothing: whether an annotation meets the rule is told by `check`."""
 import collections
 
+from searches import Reached
 from texts import listed, trace_text
 
 # Who asks and who answers on a link, by which events.
@@ -44,30 +45,22 @@ class Turns:
     """A component's table beside the count of a link's events so far, even or odd."""
 
     def __init__(self, table, events):
-        self.before = {(0, 0): None}
+        self.reached = Reached((0, 0), lambda state: ((event, (to, state[1] ^ (event in events))) for event, to in table.nodes[state[0]].steps))
         # of each count: the events that are possible there, with the state at which each first is
         self.possible = ({}, {})
-        waiting = collections.deque(self.before)
-        while waiting:
-            node, odd = state = waiting.popleft()
-            for event, to in table.nodes[node].steps:
-                own = event in events
-                if own:
-                    self.possible[odd].setdefault(event, state)
-                after = (to, odd ^ own)
-                if after not in self.before:
-                    self.before[after] = (state, event)
-                    waiting.append(after)
+        for state in self.reached:
+            for event, _ in table.nodes[state[0]].steps:
+                if event in events:
+                    self.possible[state[1]].setdefault(event, state)
+
+    def has(self, state):
+        return state in self.reached.before
 
     def trace(self, state):
-        events = []
-        while self.before[state]:
-            state, event = self.before[state]
-            events.append(event)
-        return trace_text(events[::-1])
+        return trace_text(self.reached.trace(state))
 
     def open_nodes(self):
-        return [node for node, odd in self.before if odd]
+        return [node for node, odd in self.reached if odd]
 
 
 class Roles:
@@ -149,7 +142,7 @@ class Roles:
             if offer & reading.requests and not offer >= reading.requests:
                 missing = listed(sorted(reading.requests - offer))
                 return Fault("S4", f"{self.network.short(reading.server)} {self.after(reading.server, node)} waits for {listed(sorted(offer))} and not for {missing}")
-            if reading.answers and (node, 1) in turns.before and offer & reading.requests:
+            if reading.answers and turns.has((node, 1)) and offer & reading.requests:
                 return Fault("S4", f"{self.network.short(reading.server)} after {turns.trace((node, 1))} owes an answer and waits for {listed(sorted(offer))}")
         return None
 
@@ -157,7 +150,7 @@ class Roles:
         """Whether the client, once it has asked, doesn't wait for every answer."""
         turns = self.turns[reading.client, place]
         for node, offer in self.waits(reading.client) if reading.answers else ():
-            if (node, 1) in turns.before and not offer >= reading.answers:
+            if turns.has((node, 1)) and not offer >= reading.answers:
                 missing = listed(sorted(reading.answers - offer))
                 return Fault("S5", f"{self.network.short(reading.client)} after {turns.trace((node, 1))} waits for {listed(sorted(offer))} and not for {missing}", offer)
         return None

@@ -5,11 +5,13 @@ RULES = ("cyclic", "client-server", "resource")
 PROGRAM = {
     "check": "RULE SCRIPT", "run": "SCRIPT SEED STEPS", "livelock": "SCRIPT SET", "conform": "SCRIPT SPEC", "trial": "FAMILY N", "table": "SCRIPT INDEX", "show": "SCRIPT",
 }
+# Behind which words an answer is told to a machine.
+MACHINE = ("check RULE SCRIPT ..", "--any SCRIPT ..", "--explain RULE SCRIPT", "COMMAND WORDS")
 # What may follow a command of the reader.
 READER = {
     "--explain": ("RULE SCRIPT", "SCRIPT", "COMMAND WORDS"), "--draw": ("SCRIPT INDEX", "SCRIPT"), "--page": ("RULE SCRIPT FILE.html",),
     "--annotate": ("roles SCRIPT", "resource SCRIPT", "--fresh roles SCRIPT", "--fresh resource SCRIPT"), "--proposals": ("SCRIPT",),
-    "--alphabets": ("SCRIPT",),
+    "--alphabets": ("SCRIPT",), "--json": MACHINE, "--lines": MACHINE,
 }
 
 

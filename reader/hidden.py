@@ -1,5 +1,8 @@
 """What is told of `livelock`: which events are hidden of whom, and the rounds that never come to an end."""
+import collections
+
 from network import NOT_FOLLOWED
+from searches import Reached
 from texts import MOST_NAMED, listed, trace_text
 from values import Event
 
@@ -31,29 +34,44 @@ def about_no_order(network, told):
 
 
 def round_of(table, free):
-    """A shortest trace to a node, and a shortest round of these events from it; nothing where there is none."""
-    seen, todo = {0: []}, [0]
-    for node in todo:
-        own = circle_from(table, node, free)
-        if own:
-            return seen[node], own
-        for event, to in table.nodes[node].steps:
-            if to not in seen:
-                seen[to] = [*seen[node], event]
-                todo.append(to)
-    return None
+    """A shortest trace to a node from which a round of these events leads, and a shortest such round; nothing where there is none."""
+    own = [[(event, to) for event, to in node.steps if event in free] for node in table.nodes]
+    rounds = on_rounds(own)
+    begins = Reached(0, lambda node: table.nodes[node].steps, lambda node: node in rounds)
+    if begins.found is None:
+        return None
+    # the first node counts as another one until it is come back to
+    back = Reached((begins.found, False), lambda state: ((event, (to, True)) for event, to in own[state[0]]), lambda state: state == (begins.found, True))
+    return begins.trace(begins.found), back.trace(back.found)
 
 
-def circle_from(table, first, free):
-    seen, todo = {first: []}, [first]
-    for node in todo:
-        for event, to in table.nodes[node].steps:
-            if event in free and to == first:
-                return [*seen[node], event]
-            if event in free and to not in seen:
-                seen[to] = [*seen[node], event]
-                todo.append(to)
-    return None
+def on_rounds(steps):
+    """The nodes from which these steps lead back to themselves: those of a strongly connected component with a step within it."""
+    order, seen = [], set()
+    for first in range(len(steps)):
+        todo = [(first, iter(steps[first]))] if first not in seen else []
+        seen.add(first)
+        while todo:
+            node, rest = todo[-1]
+            to = next((to for _, to in rest if to not in seen), None)
+            if to is None:
+                order.append(node)
+                todo.pop()
+            else:
+                seen.add(to)
+                todo.append((to, iter(steps[to])))
+    into = collections.defaultdict(list)
+    for node, own in enumerate(steps):
+        for _, to in own:
+            into[to].append(node)
+    leader = {}
+    for first in reversed(order):
+        todo = [first] if first not in leader else []
+        for node in todo:
+            if node not in leader:
+                leader[node] = first
+                todo += [before for before in into[node] if before not in leader]
+    return {node for node, own in enumerate(steps) if any(leader[to] == leader[node] for _, to in own)}
 
 
 def about_hidden(network, told):

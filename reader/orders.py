@@ -1,8 +1,7 @@
 """What breaks the rule `cyclic` (C1, the order, C2), read from the tables of the components. It proves nothing."""
-import collections
-
 from find_roles import asked, read_link
 from reports import node_after
+from searches import Reached
 from texts import MOST_NAMED, listed, trace_text
 
 
@@ -13,28 +12,21 @@ class Rounds:
         self.network, self.part, self.table = network, part, network.table(part)
         self.links = network.links_of(part)
         self.at = {event: number for number, link in enumerate(self.links) for event in link.events}
-        self.reached = self.walk()
+        # every (node, place of the round), those with the shortest traces first
+        self.reached = Reached((0, 0), self.following)
 
-    def walk(self):
-        """Every (node, place of the round) with a shortest trace to it, in the order of these traces."""
-        found = {(0, 0): []}
-        todo = collections.deque(found)
-        while todo:
-            node, place = todo.popleft()
-            for event, to in self.table.nodes[node].steps:
-                following = (to, (place + (event in self.at)) % max(len(self.links), 1))
-                if following not in found:
-                    found[following] = [*found[node, place], event]
-                    todo.append(following)
-        return found
+    def following(self, state):
+        node, place = state
+        for event, to in self.table.nodes[node].steps:
+            yield event, (to, (place + (event in self.at)) % max(len(self.links), 1))
 
     def places(self):
         """Each place of the round with its links: of each link an event and a trace after which it is possible there."""
         found = [{} for _ in self.links]
-        for (node, place), trace in self.reached.items():
+        for node, place in self.reached:
             for event, _ in self.table.nodes[node].steps:
-                if event in self.at:
-                    found[place].setdefault(self.at[event], (event, trace))
+                if event in self.at and self.at[event] not in found[place]:
+                    found[place][self.at[event]] = event, self.reached.trace((node, place))
         return found
 
     def place_after(self, trace):
@@ -156,12 +148,14 @@ def order_lines(network, part, link, following):
     if not table:
         return []
     events = [set(network.shared(*sorted(ends))) for ends in (link, following)]
-    for (node, _), trace in Rounds(network, part).reached.items():
-        first = next((before for before in trace if before in events[0]), None)
-        later = [event for event, _ in table.nodes[node].steps if event in events[1]]
-        if first and later:
-            return [f"      it does {first} before {later[0]}"]
-    return []
+    # with each node, whether the first link was used before it
+    reached = Reached((0, False), lambda state: ((event, (to, state[1] or event in events[0])) for event, to in table.nodes[state[0]].steps),
+                      lambda state: state[1] and any(event in events[1] for event, _ in table.nodes[state[0]].steps))
+    if not reached.found:
+        return []
+    first = next(event for event in reached.trace(reached.found) if event in events[0])
+    later = next(event for event, _ in table.nodes[reached.found[0]].steps if event in events[1])
+    return [f"      it does {first} before {later}"]
 
 
 def about_ends(network, told):

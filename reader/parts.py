@@ -17,7 +17,8 @@ def about_part(network, part, told):
         return found
     own = network.does(part)
     found += [f"  its table has {len(table.nodes)} nodes", f"  does: {listed(own)}"]
-    idle = [event for event in network.alphabet(part) if event not in set(own)]
+    done = set(own)
+    idle = [event for event in network.alphabet(part) if event not in done]
     if idle:
         found.append(f"  has in its alphabet and never does: {listed(idle)}")
     if part in told.traces:
@@ -92,7 +93,8 @@ def about_link(network, one, other):
     found = [f"  {one} - {other}, {network.short(one)} with {network.short(other)}: {listed(shared)}"]
     if network.table(left) and network.table(right):
         for part in (left, right):
-            idle = [event for event in shared if event not in set(network.does(part))]
+            done = set(network.does(part))
+            idle = [event for event in shared if event not in done]
             if idle:
                 found.append(f"    {network.short(part)} never does {listed(idle)}")
     return found

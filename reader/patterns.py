@@ -6,6 +6,7 @@ import collections, itertools
 
 from find_roles import Roles, asked
 from network import Link
+from searches import Reached
 from texts import listed
 
 # A link that has no reading: the best of the readings that were dropped, with its fault, and two readings of parts of it where there are any.
@@ -34,16 +35,11 @@ def split_of(network, link):
 
 def first_events(network, link):
     """The events of a link that may come first on it, as its ends tell by themselves."""
-    found = set()
+    found, own = set(), set(link.events)
     for part in (link.left, link.right):
-        nodes, own, seen, todo = network.table(part).nodes, set(link.events), {0}, [0]
-        for node in todo:
-            for event, to in nodes[node].steps:
-                if event in own:
-                    found.add(event)
-                elif to not in seen:
-                    seen.add(to)
-                    todo.append(to)
+        nodes = network.table(part).nodes
+        for node in Reached(0, lambda node, nodes=nodes: ((event, to) for event, to in nodes[node].steps if event not in own)):
+            found |= {event for event, _ in nodes[node].steps if event in own}
     return found
 
 
@@ -108,14 +104,17 @@ def mended_split(network, one, other):
     """The pattern for a link on which there are two conversations."""
     both = f"{asked(network, one)}, and {asked(network, other)}"
     if one.client != other.client and (one.answers or other.answers):
-        return [f"each asks the other: {both}", "  let what one of the two is asked be taken by a component of its own (examples/callback_cache.csp; callback_cache_naive.csp is the one without it)"]
+        return [f"each asks the other: {both}",
+                "  let what one of the two is asked be taken by a component of its own (examples/callback_cache.csp; callback_cache_naive.csp is the one without it)"]
     if one.client != other.client:
-        return [f"each sends to the other: {both}", "  so each may wait to send while the other does; let one of the ways go through a mailbox, which takes at any moment (docs/RULES.md, \"A mailbox\"; examples/can_gateway.csp)"]
+        return [f"each sends to the other: {both}",
+                "  so each may wait to send while the other does; let one of the ways go through a mailbox, which takes at any moment (docs/RULES.md, \"A mailbox\"; examples/can_gateway.csp)"]
     if one.answers and other.answers:
         return [f"two sorts of answers: {both}", "  a client that waits takes every answer of its link: give them one channel, with a field that tells which it is (examples/paxos.csp)"]
     if one.answers or other.answers:
         return [f"a message without an answer on a link that has answers: {both}", "  answer it too, or send it by way of a component of its own (examples/usb_polling.csp)"]
-    return [f"taken at different moments: {both}", "  what is taken and given back is a resource, whose users share events with resources alone; a server takes every request at any moment, and answers it"]
+    return [f"taken at different moments: {both}",
+            "  what is taken and given back is a resource, whose users share events with resources alone; a server takes every request at any moment, and answers it"]
 
 
 def unread_lines(network, unread):
@@ -143,10 +142,12 @@ def about_mending(network, told):
 
 def about_readings(network, told):
     """Of a network that is not proved, and that nobody annotated: how it reads as clients and servers, or what is in the way."""
-    if any(note[0] == "roles" for note in network.script.notes) or not network.components or not all(network.table(part) for part in range(network.count)):
+    if any(note[0] == "roles" for note in network.script.notes) or not network.components:
         return []
+    # of a large network the links of the components that are told
     places = [place for place, link in enumerate(network.links()) if network.count <= MOST_PARTS or link.left in told.components or link.right in told.components]
-    if not places or any(len(network.owners(event)) > 2 for part in told.components[:1] for event in network.alphabet(part)):
+    ends = {part for place in places for part in (network.links()[place].left, network.links()[place].right)}
+    if not places or not all(network.table(part) for part in ends):
         return []
     roles = Roles(network, places)
     choice = roles.choice() if len(places) == len(network.links()) else None

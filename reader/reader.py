@@ -10,12 +10,13 @@ It proves nothing. It asks the program, and passes its report and its status on 
   --annotate roles SCRIPT, or resource SCRIPT   the script with annotations and the sets that they need, as the components' tables suggest them
   --annotate --fresh roles SCRIPT, or resource  the same as if none of that kind were there
   --proposals SCRIPT                            a line for each rule that proves the script with the annotations that are proposed
-  --alphabets SCRIPT                            for each component the events that its text does, beside its alphabet"""
+  --alphabets SCRIPT                            for each component the events that its text does, beside its alphabet
+  --json WORDS, or --lines WORDS                the answers of check, --any, --explain, run and so on for a machine: an object a script, or a line a finding"""
 import pathlib, signal, sys, traceback
 
 sys.dont_write_bytecode = True
 sys.path.insert(0, str(pathlib.Path(__file__).resolve().parent))
-import alphabets, annotate, draw, explain, forms, outputs, page
+import alphabets, annotate, draw, explain, findings, forms, outputs, page
 
 # A word, and what it does: a function of the program and of the words behind it. It gives the status, or nothing where the words are none of its own.
 COMMANDS = {
@@ -25,6 +26,8 @@ COMMANDS = {
     "--annotate": annotate.command,
     "--proposals": annotate.proposals,
     "--alphabets": alphabets.command,
+    "--json": findings.as_json,
+    "--lines": findings.as_lines,
 }
 NO_COMMAND, NOT_WRITTEN, FAILED = 3, 4, 70
 DEEPEST = 20_000

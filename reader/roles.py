@@ -3,6 +3,7 @@ import collections
 
 from network import MEANINGS
 from reports import node_after
+from searches import Reached
 from texts import MOST_NAMED, listed, trace_text
 
 KIND = "roles"
@@ -268,14 +269,9 @@ def owing(network, roles, part, before, after):
     link = next(one for one in network.links_of(part) if other_end(one, part) == before)
     if not table or not roles.has_answers(link):
         return []
-    seen, todo = {(0, False): []}, collections.deque([(0, False)])
-    while todo:
-        node, due = todo.popleft()
-        for event, to in table.nodes[node].steps:
-            if due and event in asked:
-                return [*seen[node, due], event]
-            following = (to, due != (event in taken))
-            if following not in seen:
-                seen[following] = [*seen[node, due], event]
-                todo.append(following)
-    return None
+
+    def asks(state):
+        return next((event for event, _ in table.nodes[state[0]].steps if state[1] and event in asked), None)
+
+    reached = Reached((0, False), lambda state: ((event, (to, state[1] != (event in taken))) for event, to in table.nodes[state[0]].steps), asks)
+    return [*reached.trace(reached.found), asks(reached.found)] if reached.found else None

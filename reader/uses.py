@@ -1,7 +1,6 @@
 """What breaks the rule `resource` (U1 to U5), read from annotations and tables. It proves nothing."""
-import collections
-
 from roles import annotation_lines, offers_after, other_end, unannotated
+from searches import Reached
 from texts import MOST_NAMED, listed, trace_text
 
 KIND = "resource"
@@ -130,14 +129,11 @@ def held_while(network, uses, user, one, other):
     table, link = network.table(user), set(network.shared(user, one))
     wanted = {event for event in network.shared(user, other) if uses.acquires(other, event)}
     shared = {event for own in network.links_of(user) for event in own.events}
-    seen, todo = {(0, False): []}, collections.deque([(0, False)])
-    while table and todo:
-        node, held = todo.popleft()
-        if held and any(wanted & set(offer) and set(offer) <= shared for offer in table.nodes[node].accepts):
-            return seen[node, held]
-        for event, to in table.nodes[node].steps:
-            following = (to, held != (event in link))
-            if following not in seen:
-                seen[following] = [*seen[node, held], event]
-                todo.append(following)
-    return None
+    if not table:
+        return None
+
+    def waits(state):
+        return state[1] and any(wanted & set(offer) and set(offer) <= shared for offer in table.nodes[state[0]].accepts)
+
+    reached = Reached((0, False), lambda state: ((event, (to, state[1] != (event in link))) for event, to in table.nodes[state[0]].steps), waits)
+    return reached.trace(reached.found) if reached.found else None
