@@ -34,7 +34,7 @@ def files_of(commands, prefix):
     yield TOP / "dlcheck", commands / "dlcheck"
     yield PROVED, prefix / "lib/dlcheck/dlcheck"
     yield PROVED_STAMP, prefix / "lib/dlcheck/proved-sources"
-    for folder, pattern, ends, below in (("reader", "*", {".py", ".html", ".css", ".js"}, "dlcheck/reader"), ("command", "*", {".py"}, "dlcheck/command"), ("", "README.md", {".md"}, "doc/dlcheck"),
+    for folder, pattern, ends, below in (("reader", "*", {".py", ".html", ".css", ".js"}, "dlcheck/reader"), ("command", "*", {".py"}, "dlcheck/command"), ("port", "*", {".py"}, "dlcheck/port"), ("", "README.md", {".md"}, "doc/dlcheck"),
                                          ("docs", "*", {".md"}, "doc/dlcheck/docs"), ("examples", "*", {".csp"}, "doc/dlcheck/examples"), ("share", "**/*", None, "")):
         for file in sorted((TOP / folder).glob(pattern)):
             if file.is_file() and (not ends or file.suffix in ends):

@@ -30,6 +30,7 @@ TESTS = (
     Test("reports that are explained", "reader/test PROGRAM"),
     Test("annotations that are proposed", "reader/test_annotate PROGRAM"),
     Test("pages in a browser", "reader/test_page PROGRAM"),
+    Test("scripts from FDR", "port/test PROGRAM"),
     Test("the worked scripts", "command/worked.py UNPROVED PROGRAM"),
     Test("scripts that are nested deeply", "bench/deep --stack STACK PROGRAM"),
     Test("the command's functions", "command/test PROGRAM"),

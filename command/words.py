@@ -33,6 +33,9 @@ class Command(NamedTuple):
 
 PROGRAM = "program"
 READER = Tool("reader/reader.py", asks_program=True, takes_first=True)
+PORT = Tool("port/port.py", asks_program=False, takes_first=False)
+# the words behind --json and --lines
+FOR_MACHINES = ("COMMAND WORDS", "check RULE SCRIPT ..", "--any SCRIPT ..", "--explain RULE SCRIPT")
 
 COMMANDS = (
     Command("check", ("RULE SCRIPT",), PROGRAM, "judges the network of the script's first deadlock assertion by a rule: cyclic, client-server or resource"),
@@ -56,6 +59,9 @@ COMMANDS = (
             "components' tables; `check` judges the result. With --fresh as if the script had none of that kind"),
     Command("--proposals", ("SCRIPT",), READER, "prints a line for each rule that proves the script with the annotations that are proposed for it; the status is 0 where there is one, else 1"),
     Command("--alphabets", ("SCRIPT",), READER, "prints for each component the events that its text does, beside its alphabet; the status is 0 where all of these are equal, else 1"),
+    Command("--port", ("SCRIPT",), PORT, "prints a script in dlcheck's language for one in CSPm as FDR reads it; `check` judges the result"),
+    Command("--json", FOR_MACHINES, READER, "an object for each script: what the command behind it answers, for a machine"),
+    Command("--lines", FOR_MACHINES, READER, "a line for each finding, FILE:LINE:COLUMN: MESSAGE, of what the command behind it answers"),
     Command("--version", ("",), "help.version", "the sum of the sources, and the kit that proved them"),
     Command("--help", ("",), "help.show", "prints all commands"),
     Command("--prove", ("",), "proving.prove", "proves and builds the program; later calls run it", is_local=True),

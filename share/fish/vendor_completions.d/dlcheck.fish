@@ -29,6 +29,27 @@ set -g __dlcheck_forms \
   '--annotate --fresh resource SCRIPT' \
   '--proposals SCRIPT' \
   '--alphabets SCRIPT' \
+  '--port SCRIPT' \
+  '--json check RULE SCRIPT' \
+  '--json show SCRIPT' \
+  '--json table SCRIPT INDEX' \
+  '--json trial FAMILY N' \
+  '--json run SCRIPT SEED STEPS' \
+  '--json livelock SCRIPT SET' \
+  '--json conform SCRIPT SPEC' \
+  '--json check RULE SCRIPT ..' \
+  '--json --any SCRIPT ..' \
+  '--json --explain RULE SCRIPT' \
+  '--lines check RULE SCRIPT' \
+  '--lines show SCRIPT' \
+  '--lines table SCRIPT INDEX' \
+  '--lines trial FAMILY N' \
+  '--lines run SCRIPT SEED STEPS' \
+  '--lines livelock SCRIPT SET' \
+  '--lines conform SCRIPT SPEC' \
+  '--lines check RULE SCRIPT ..' \
+  '--lines --any SCRIPT ..' \
+  '--lines --explain RULE SCRIPT' \
   '--version' \
   '--help' \
   '--uninstall DIR'
@@ -89,7 +110,10 @@ complete -c dlcheck -n '__dlcheck_wants --explain' -a '--explain' -d 'the report
 complete -c dlcheck -n '__dlcheck_wants --fresh' -a '--fresh'
 complete -c dlcheck -n '__dlcheck_wants --help' -a '--help' -d 'prints all commands'
 complete -c dlcheck -n '__dlcheck_wants --install' -a '--install' -d 'the same, and puts the command into DIR, and what belongs to it under DIR/../lib and DIR/../share'
+complete -c dlcheck -n '__dlcheck_wants --json' -a '--json' -d 'an object for each script'
+complete -c dlcheck -n '__dlcheck_wants --lines' -a '--lines' -d 'a line for each finding, FILE'
 complete -c dlcheck -n '__dlcheck_wants --page' -a '--page' -d 'writes the report, a picture of the network and a way to step through it as one page for a browser'
+complete -c dlcheck -n '__dlcheck_wants --port' -a '--port' -d 'prints a script in dlcheck\'s language for one in CSPm as FDR reads it'
 complete -c dlcheck -n '__dlcheck_wants --proposals' -a '--proposals' -d 'prints a line for each rule that proves the script with the annotations that are proposed for it'
 complete -c dlcheck -n '__dlcheck_wants --prove' -a '--prove' -d 'proves and builds the program'
 complete -c dlcheck -n '__dlcheck_wants --prove-by' -a '--prove-by' -d 'check RULE SPEC and conform SCRIPT SPEC over one copy of both'
