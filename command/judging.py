@@ -2,7 +2,7 @@
 import contextlib, os, subprocess
 
 from console import shown, tell
-from words import RULES
+from words import READER, RULES
 
 # A script has at most 1,048,576 bytes: one byte more is enough for the program to say that it is too long.
 LONGEST = 1_048_577
@@ -68,6 +68,10 @@ def check_by_any(program, script):
     with copied(script) as (copy, held):
         for rule in RULES:
             tell(f"{rule}: {judge.ask('check', rule, copy, held=held)}")
+        if judge.greatest() == 1 and 0 not in judge.statuses:
+            # the script as it stands is not proved all the same
+            for line in program.ask_tool(READER, ["--proposals", copy], held).splitlines():
+                tell(shown(line))
     return 0 if 0 in judge.statuses else judge.greatest()
 
 

@@ -92,13 +92,22 @@ class Program:
     def run_tool(self, tool, words, form):
         """Has a tool answer; its status."""
         asked = ["--program", self.for_tool(words, form)] if tool.asks_program else []
-        child = subprocess.Popen([sys.executable, "-I", "-S", "-B", HOME / tool.file, *asked, *words[0 if tool.takes_first else 1:]])
+        return self.run_python(tool, [*asked, *words[0 if tool.takes_first else 1:]])[0]
+
+    def ask_tool(self, tool, words, held):
+        """What a tool prints to words over the program that was asked before; nothing where it fails. `held` are open files among the words."""
+        status, printed = self.run_python(tool, ["--program", self.path or TOP / "dlcheck", *words], subprocess.PIPE, held)
+        return printed.decode(errors="replace") if status in (0, 1) else ""
+
+    def run_python(self, tool, words, into=None, held=()):
+        """Runs a tool; its status, and what it prints where `into` is subprocess.PIPE."""
+        child = subprocess.Popen([sys.executable, "-I", "-S", "-B", HOME / tool.file, *words], stdout=into, pass_fds=held)
         try:
-            status = child.wait()
+            printed = child.communicate()[0]
         except Stopped as stopped:
             end_child(child, stopped.number)
             raise
-        return status if status >= 0 else 128 - status
+        return child.returncode if child.returncode >= 0 else 128 - child.returncode, printed
 
 
 def end_child(child, number):

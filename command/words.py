@@ -49,7 +49,8 @@ COMMANDS = (
     Command("conform", ("SCRIPT SPEC",), PROGRAM, "compares each component of a script with the one in its place in another script, its specification: where all conform and the "
             "specification is free of deadlock, so is the script"),
     Command("check", ("RULE SCRIPT SCRIPT ..",), "judging.check_several", "judges several scripts, with a line for each; the status is the greatest of theirs"),
-    Command("--any", ("SCRIPT",), "judging.check_by_any", "checks by each of the three rules, with a line for each; the status is 0 where one of them proves the network, else the greatest of the three"),
+    Command("--any", ("SCRIPT",), "judging.check_by_any", "checks by each of the three rules, with a line for each, and says where annotations that --annotate proposes would do; the status is 0 where one of them proves the "
+            "network, else the greatest of the three"),
     Command("--prove-by", ("SPEC RULE SCRIPT",), "judging.prove_by", "`check RULE SPEC` and `conform SCRIPT SPEC` over one copy of both: where both end with 0, the network of SCRIPT is free of deadlock"),
     Command("--explain", ("RULE SCRIPT", "COMMAND WORDS", "SCRIPT"), READER, "the report of `check`, or of another command of the program with its words, then what breaks the rule in "
             "this script and by what, and what docs/ANSWERS.md says of it; with a script alone, all components and links"),

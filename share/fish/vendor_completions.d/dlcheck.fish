@@ -104,7 +104,7 @@ complete -c dlcheck -n '__dlcheck_wants FILE.html' -a '(__fish_complete_suffix .
 complete -c dlcheck -n '__dlcheck_wants DIR' -a '(__fish_complete_directories)'
 complete -c dlcheck -n '__dlcheck_wants --alphabets' -a '--alphabets' -d 'prints for each component the events that its text does, beside its alphabet'
 complete -c dlcheck -n '__dlcheck_wants --annotate' -a '--annotate' -d 'prints the script with annotations that are found from its components\' tables'
-complete -c dlcheck -n '__dlcheck_wants --any' -a '--any' -d 'checks by each of the three rules, with a line for each'
+complete -c dlcheck -n '__dlcheck_wants --any' -a '--any' -d 'checks by each of the three rules, with a line for each, and says where annotations that --annotate proposes would do'
 complete -c dlcheck -n '__dlcheck_wants --draw' -a '--draw' -d 'prints the components and links, or a component\'s table, for Graphviz'
 complete -c dlcheck -n '__dlcheck_wants --explain' -a '--explain' -d 'the report of check, or of another command of the program with its words, then what breaks the rule in this script and by what, and what docs/ANSWERS.md says of it'
 complete -c dlcheck -n '__dlcheck_wants --fresh' -a '--fresh'
