@@ -1,12 +1,13 @@
 """Proposes annotations for a script: who asks and who answers, or what is a resource, with the sets that this needs, found from the components' tables.
 
 It proves nothing: `check` judges the script that it prints."""
-import collections, concurrent.futures, os, pathlib, tempfile
+import collections, concurrent.futures, os, pathlib
 
 from network import KINDS, Network
 from fresh import without_annotations
 from outputs import say, send, warn
 from reports import ask, text_of
+from rooms import make_room
 from find_roles import Roles, asked, in_order, named_events
 from script import NoScript, tokens_of
 from set_expressions import NO_VALUE, Finder, has_values
@@ -252,7 +253,7 @@ class Proposal:
 
     def reads_as_meant(self, content):
         """Whether the program reads the text as the script with the added declarations."""
-        with tempfile.TemporaryDirectory() as room:
+        with make_room() as room:
             file = pathlib.Path(room) / "script.csp"
             file.write_bytes(content)
             shown = ask(self.network.program, ["show", str(file)], quiet=True)
@@ -282,7 +283,7 @@ def proposal_for(program, kind, script, fresh=False):
     """Looks for annotations of a kind; `fresh` leaves out those that are there."""
     network, refusal = network_of(program, script)
     if not refusal and fresh and network.script:
-        with tempfile.TemporaryDirectory() as room:
+        with make_room() as room:
             bare = pathlib.Path(room) / "bare.csp"
             bare.write_bytes(without_annotations(network, kind))
             network, refusal = network_of(program, str(bare))
@@ -332,7 +333,7 @@ def proposals(program, words):
         found = proposal_for(program, kind, network.file)
         if found.status or found.content == network.content:
             continue
-        with tempfile.TemporaryDirectory() as room:
+        with make_room() as room:
             noted = pathlib.Path(room) / "noted.csp"
             noted.write_bytes(found.content)
             if ask(program, ["check", rule, str(noted)], quiet=True).status == 0:

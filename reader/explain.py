@@ -1,16 +1,16 @@
 """What is told beside a report: what the page says of it, and what it names of the script and the network. It proves nothing."""
 import collections, pathlib, re
 
-from constructs import MOST_CONSTRUCTS, constructs_of
 from comparing import about_outside, about_refusal
+from constructs import MOST_CONSTRUCTS, constructs_of
 from forms import RULES, is_of_program, script_places
 from hidden import about_bound, about_hidden, about_no_order, about_no_set
 from network import KINDS, NOT_FOLLOWED, Network
-from outputs import pass_on, say, warn
 from orders import about_circle, about_ends, about_order, cause_of, way_of
+from outputs import pass_on, say, warn
 from pages import language_rows, row_head, section
-from patterns import about_mending, about_readings
 from parts import about_links, about_part, about_stop
+from patterns import about_mending, about_readings
 from refusals import ABOUT as REFUSALS, about_components_differ, about_events_differ
 from reports import ask, table_of, told_by
 from roles import about_clients, about_roles, answers_of
@@ -82,7 +82,7 @@ def explained(told, network=None, specification=None):
     here = about_comments(named, told)
     here += about_place(named, told) if refused else []
     here += here_of(told, network, specification)
-    here += attempt(about_language, named, told) if refused else []
+    here += attempt(about_constructs, named, told) + attempt(about_language, named, told) if refused else []
     return Explained(here, *about_page(told, attempt(keys_of, told, named)), attempt(about_network, named, told) if refused else [])
 
 
@@ -158,14 +158,23 @@ def about_place(network, told):
     return found
 
 
-def about_language(network, told):
-    """What the script has that is outside of the language, by line, and the rows of the page on the language that are about it."""
-    found = constructs_of(network.source) if told.number in ("1", "4") else []
-    kept = language_rows(told, network, {construct.row for construct in found})
+def constructs_in(network, told):
+    """What the script has that is outside of the language, where that is why it is refused."""
+    return constructs_of(network.source) if told.number in ("1", "4") else []
+
+
+def about_constructs(network, told):
+    """All that is outside of the language at once, by line."""
+    found = constructs_in(network, told)
     lines = [f"  line {construct.line}, {row_head(construct.row)}: {construct.text}" for construct in found[:MOST_CONSTRUCTS]]
     lines += [f"  and {len(found) - MOST_CONSTRUCTS} more"] if len(found) > MOST_CONSTRUCTS else []
-    listing = ["", "Outside of the language, by line:", *lines] if lines else []
-    return listing + (["", "LANGUAGE.md, as you know it and as it is written here:", "", *kept] if kept else [])
+    return ["", "Outside of the language, by line:", *lines] if lines else []
+
+
+def about_language(network, told):
+    """The rows of the page on the language that may be about what is refused."""
+    kept = language_rows(told, network, {construct.row for construct in constructs_in(network, told)})
+    return ["", "LANGUAGE.md, as you know it and as it is written here:", "", *kept] if kept else []
 
 
 def about_network(network, told):

@@ -2,10 +2,11 @@
 
 All that the program can tell is asked of it (`show`, `table`), each thing once. How components are called, and alphabets, stand in no report: they are
 evaluated from what `show` prints, and where that can't be followed the tables alone are gone by. It proves nothing."""
-import collections, pathlib, re, tempfile, time
+import collections, pathlib, re, time
 
 from layout import Layout
 from reports import ask, events_of, node_after, table_of, text_of
+from rooms import make_room
 from script import NOT_FOLLOWED, lines_of
 from trees import process_text
 from values import Script
@@ -52,7 +53,7 @@ class Network:
                 content = opened.read(MOST_BYTES + 1)
         except (OSError, ValueError):
             return b""
-        self.room = tempfile.TemporaryDirectory()
+        self.room = make_room()
         self.file = str(pathlib.Path(self.room.name) / "script.csp")
         pathlib.Path(self.file).write_bytes(content)
         return content
@@ -106,7 +107,7 @@ class Network:
         asserted = f"assert {script.use(name, values)} : [ deadlock free ]"
         if asserted not in self.kept_alone:
             lines = [*(line for line in self.shown if not line.startswith("assert ")), *added, asserted, ""]
-            with tempfile.TemporaryDirectory() as room:
+            with make_room() as room:
                 alone = pathlib.Path(room) / "alone.csp"
                 alone.write_text("\n".join(lines), encoding="utf-8")
                 self.kept_alone[asserted] = table_of(ask(self.program, ["table", str(alone), "0"], quiet=True))
