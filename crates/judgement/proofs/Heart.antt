@@ -1,5 +1,5 @@
 -- The theorem about rankings, at the steps of a program.
-use Rattle.judgement.proofs.Prelude.{◌≡◌, ℕ, List, [], ◌∷◌, refl, sym, ap, subst, ◌∙◌, arith, Content, Proc, Tree, Component, Label, leaves, Ranking, Shape, Fits, Falls, IsGoodRanking, IsGreatestSilence, IsSilentBound, IsSound, HasSilentBound, HasTables, IsApart, IsLive, IsSpelled, AreSeatsOf, Network, StaysBusy, network_at, tree_at, tree_in, ComponentTable, ProcessStep, bound_is, bound_of, good_rankings_mean_live, network_is_tree, shapes_are_well_formed, shapes_behave}
+use Rattle.judgement.proofs.Prelude.{◌≡◌, ℕ, List, [], ◌∷◌, refl, sym, ap, subst, ◌∙◌, arith, Content, Proc, Tree, Component, Label, leaves, Ranking, Shape, Fits, Falls, IsGoodRanking, IsGreatestSilence, IsSilentBound, IsSound, HasSilentBound, HasTables, IsApart, IsLive, IsSpelled, AreSeatsOf, Network, StaysBusy, network_at, tree_at, tree_in, ComponentTable, ProcessStep, bound_is, bound_of, good_rankings_mean_live, network_is_tree, shapes_are_well_formed, shapes_behave, spelled_is_walked}
 
 -- ---- the silent bound is one
 
@@ -20,7 +20,7 @@ one_bound Step (c ∷ cs) m n (first, others, silence, rest, sum) (first', other
 
 pub is_network_at : (network : Network) → IsSpelled network → network_at network.program ≡ network
 unfolding tree_at
-is_network_at network spelled = ap (λ (t : Tree Proc). record { program = network.program; tree = t }) (ap tree_in spelled)
+is_network_at network spelled = ap (λ (t : Tree Proc). record { program = network.program; tree = t }) (ap tree_in (spelled_is_walked network.program network.tree spelled))
 
 pub seats_of : (p : Content) (seats : List (Component Proc)) (network : Network) → p ≡ network.program → seats ≡ leaves network.tree → IsSpelled network → AreSeatsOf p seats
 seats_of p seats network program are spelled =
