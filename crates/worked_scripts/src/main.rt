@@ -4,12 +4,11 @@
 //! shown again, and each is judged. Of the text in the file SCRIPT, each front is shown, and judged by the rule of users and resources. The file ROWS
 //! holds texts too, each below a line that begins with `=== ` and has the words of a command, with SCRIPT for the text, then a colon, and what the text
 //! is an example of. So does the file PAIRS, where each text is that of a script, the line `--- specification`, and that of its specification, for which
-//! SPEC stands. Of the script in the file STEPS, each process is put into a pool twice, and its steps are listed. Then comes what the theorem about rankings
-//! returns, called by itself. Last comes what is answered to texts at the limit of length and over devices that fail.
+//! SPEC stands. Of the script in the file STEPS, each process is put into a pool twice, and its steps are listed. Last comes what is answered to texts at
+//! the limit of length and over devices that fail.
 #![tactic(auto)]
 
 mod bounds;
-mod conclusion;
 mod devices;
 mod page;
 mod steps;
@@ -138,7 +137,6 @@ impl Page {
         self.push_rows(rows.as_slice())?;
         self.push_rows(pairs.as_slice())?;
         self.push_processes(steps.as_slice())?;
-        self.push_conclusion()?;
         self.push_bounds()?;
         self.push_devices(script.as_slice())?;
         self.push_system(rt)
